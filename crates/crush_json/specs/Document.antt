@@ -8,7 +8,7 @@ abbrev pub with_history : Option Data → Members → Members
 with_history None ms = ms
 with_history (Some h) ms = member (codes "history") h ms
 
--- an object with a member that has this name, and the value `told`. If there is a history, the member `history` comes before this member
+-- an object with a member that has this name and the value `told`. If there is a history, the object also has the member `history`, before this member
 abbrev pub document_of : List ℕ → Option Data → Data → Data
 document_of name history told = object (with_history history (member name told no_members))
 

@@ -14,7 +14,7 @@ use Rattle.crush_json.specs.Values.{natural, whole, list, text_if}
 use Rattle.crush_json.specs.Ids.{bucket_numbers}
 use Rattle.crush_json.specs.RuleDocument.{rule_documents}
 
--- the value for the item with this id, as a list. `told` gives the value. The list is empty if the table doesn't have the item
+-- the value for the item with this id, as a list. The function `told` gives the value for what the table says about the item. The list is empty if the table doesn't have the item
 abbrev pub of_view : List Row → ItemId → (ViewData → Data) → List Data
 of_view t i told = option_map_or (λ v. told v ∷ []) (view_of t i) []
 

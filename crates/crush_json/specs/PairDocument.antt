@@ -1,4 +1,4 @@
--- The value for a pair. A pair has what two maps say about an item. The id in the value comes from the pair itself.
+-- The value for a pair. A pair has what each of two maps says about an item. The definitions here get the id of the item from the pair (`pair_id`).
 use Rattle.std.specs.Prelude.{ℕ, List, [], ◌∷◌, Option, Some, None, codes, flat_map, is_some, if◌then◌else◌, map}
 use Rattle.std.specs.Option.{option_map}
 use Rattle.crush_units.specs.declared.id.ItemId.{ItemId}
@@ -38,7 +38,7 @@ pair_document s p e = object (whole_if (codes "id") (option_map item_number (pai
 abbrev pub pair_change : Identity → SettingData → SettingData → EntryPair → List Data
 pair_change by s p e = if is_some (pair_difference by Changes s p e) then pair_document s p e ∷ [] else []
 
--- the values for all pairs of a comparison in which something differs
+-- the values for all pairs of a comparison about whose items the two maps say different things
 abbrev pub pair_changes : {A B : _} → Comparison A B → List Data
 pair_changes both = flat_map (λ p. pair_change both.identity both.old.map.now.setting both.new.map.now.setting (pair_entries both p)) both.pairs.items
 

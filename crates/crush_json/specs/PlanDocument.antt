@@ -34,7 +34,7 @@ pair_values at = map (λ p. string (pair_word p)) at
 abbrev pub one_name : List ℕ → Data
 one_name name = list (string name ∷ [])
 
--- COMMANDS as values. Each of the following definitions is for one list of arguments. `weighing` is for both kinds of edit that set a weight, and each other definition is for one kind of edit. The first argument `prefix` of each definition is the words with which the command begins
+-- COMMANDS as values. The next nine definitions give the values for the commands of edits. `weighing` is for the edits `Reweight` and `ReweightSubtree`, and each of the other definitions is for one kind of edit. The argument `prefix` has the words with which the command begins
 unfoldable pub placing : List ℕ → ℕ → ℕ → List Pair → json.Json
 placing prefix device w at =
     json.object (told (codes "args") (list (pair_values at)) (told (codes "id") (natural device) (text (codes "prefix") prefix (weight w))))
@@ -78,7 +78,7 @@ prefixed prefix (Rename from to) = renaming prefix from to
 prefixed prefix (SetClass name class) = classing prefix name class
 prefixed prefix (RemoveClass name) = declassing prefix name
 
--- the words with which the command of an edit begins: `osd crush `, and the word that stands for the edit in a script
+-- the words with which the command of an edit begins: `osd crush `, and the first word of the edit's command in a script
 abbrev pub command_words : Edit → List ℕ
 command_words e = codes "osd crush " ++ keyword_word (edit_keyword e)
 

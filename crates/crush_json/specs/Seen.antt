@@ -10,7 +10,7 @@ use Rattle.crush_json.specs.HistoryDocument.{history_document}
 use Rattle.crush_json.specs.Values.{natural}
 use Rattle.crush_json.specs.declared.history.History.{History}
 
--- a member for each of these numbers, under the number's name
+-- a member for each of these numbers. Each number has a name, which is the name of its member
 abbrev pub number_members : List (String Global × ℕ) → Members
 number_members es = members_of (map (λ e. (e.0, natural e.1)) es)
 

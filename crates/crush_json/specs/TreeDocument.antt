@@ -45,7 +45,7 @@ is_stray_in (Device d) None = true
 is_stray_in (Device d) (Some p) = false
 is_stray_in (Bucket b) p = false
 
--- the same, given what a table says about the item
+-- whether an item is stray, given what a table says about the item
 abbrev pub is_stray : ViewData → Bool
 is_stray v = is_stray_in v.id v.parent
 

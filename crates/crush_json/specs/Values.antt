@@ -21,7 +21,7 @@ abbrev pub text_if : List ℕ → Option (List ℕ) → Members → Members
 text_if key None ms = ms
 text_if key (Some text) ms = member key (string text) ms
 
--- the same with a whole number in place of the text
+-- if there is a whole number, the members `ms` with a member before them, which has this number as its value; otherwise only the members `ms`
 abbrev pub whole_if : List ℕ → Option ℤ → Members → Members
 whole_if key None ms = ms
 whole_if key (Some z) ms = member key (whole z) ms

@@ -26,8 +26,8 @@ use crush_tree::ShadowId;
 use crush_units::{Alg, ItemId};
 use std::alloc::{AllocError, Allocator};
 
-/// Writes a list with an object for each pair in which something differs, in the order of the
-/// pairs.
+/// Writes a list with an object for each pair of `both` for which [`differs`] is true, in the order
+/// of the pairs. A pair has the positions of one item in the two maps.
 pub(crate) fn push_changes<A: Allocator, B: Allocator>(
     both: &Comparison<'_, A, B>,
     out: &mut Document,
@@ -71,7 +71,8 @@ fn push_pair<A: Allocator, B: Allocator>(
     }
 }
 
-/// Whether the two maps say different things about the item of this pair.
+/// Whether the two maps say different things about the item of this pair. They do so, too, if only
+/// one of them has the item.
 fn differs<A: Allocator, B: Allocator>(both: &Comparison<'_, A, B>, pair: Pair) -> bool
     ensures { result ≡ is_some (pair_difference both.now.identity Changes
         both.now.old.map.now.setting both.now.new.map.now.setting (pair_entries both.now pair)) }

@@ -78,7 +78,7 @@ impl Document {
         self.writer.end_array()
     }
 
-    /// Writes the name of a member. The caller writes its value next.
+    /// Writes the name of a member. The caller must write the value of the member next.
     pub(crate) fn key(&mut self, name: &str) -> Result<(), AllocError>
         ensures { OnOk result (self.new ≡ self.old ++ key name.now ∷ []) }
     {
@@ -111,7 +111,7 @@ impl Document {
         self.writer.u64(number)
     }
 
-    /// Writes a member whose value is a number. The number may be 2^64 or greater.
+    /// Writes a member whose value is a number of up to 128 bits.
     pub(crate) fn large(&mut self, name: &str, number: u128) -> Result<(), AllocError>
         ensures { OnOk result (self.new ≡ self.old ++ member_tokens name.now (natural number)) }
     {

@@ -196,9 +196,9 @@ fn push_refusal(
     push_last(reported, Some(refusal.name()), out)
 }
 
-/// Writes an entry for a guarded batch that was refused because the number of earlier calls that
-/// changed the map isn't the number in the batch. `changes` is the number of these calls. The error
-/// number of such an entry is 11 (EAGAIN).
+/// Writes an entry for a guarded batch (a batch that begins with `begin at N`) that was refused,
+/// because the number of earlier calls that changed the map isn't N. `changes` is the number of
+/// these earlier calls. The error number of such an entry is 11 (EAGAIN).
 fn push_stale(reported: &Reported<'_>, changes: u32, out: &mut Document) -> Result<(), AllocError>
     ensures { OnOk result (out.new ≡ out.old ++ tokens_of (stale_document reported.now.number
         reported.now.operator.now reported.now.call.now changes reported.now.reply.now)) }

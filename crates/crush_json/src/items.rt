@@ -1,5 +1,5 @@
-//! Lists the devices and the buckets of a map in the order of its JSON document: the devices by
-//! ascending id, and the buckets from the one whose id is nearest to -1 downward.
+//! Lists the devices and the buckets of a map in the order in which the map's JSON document has
+//! them: the devices by ascending id, and the buckets from the id -1 downward.
 
 ghost use Rattle.std.specs.Prelude.{◌≡◌, [], ◌∷◌, ◌++◌, List, IfOk, OnOk, map as each};
 ghost use Rattle.crush_nodes.specs.Seen.{items_of, leaf_data, node_id};
@@ -14,8 +14,8 @@ use crush_tree::{Bucket, Forest, Leaf, Node};
 use crush_units::BucketId;
 use std::alloc::{AllocError, Allocator, Global};
 
-/// Returns all devices of the forest, by ascending id. Takes the time to sort the devices. Fails
-/// only if memory runs out.
+/// Returns all devices of the forest, by ascending id. The function visits each item once, and
+/// sorts the devices. Fails only if memory runs out.
 pub(crate) fn devices_in_order<A: Allocator>(
     alloc: Global,
     forest: &Forest<A>,
@@ -50,8 +50,8 @@ fn find_devices<'a, A: Allocator>(
     Ok(())
 }
 
-/// Returns all buckets of the forest. The bucket whose id is nearest to -1 comes first. Takes the
-/// time to sort the buckets. Fails only if memory runs out.
+/// Returns all buckets of the forest, from the id -1 downward. The function visits each root and
+/// each item below a root once, and sorts the buckets. Fails only if memory runs out.
 pub(crate) fn buckets_in_order<A: Allocator>(
     alloc: Global,
     forest: &Forest<A>,

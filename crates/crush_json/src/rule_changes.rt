@@ -16,12 +16,12 @@ use crush_map::CrushMap;
 use crush_since::{RuleChange, rule_changes};
 use std::alloc::{AllocError, Allocator, Global};
 
-/// Writes a list with an object for each rule that differs. If only the order of the rules differs,
-/// the list has one object instead, which says that the order differs. After these objects, the
-/// list has an object for each `take` step of the new map's rules that takes nothing any more. This
-/// means that the devices which the step takes had a total weight above 0 in the old map, and have
-/// the total weight 0 in the new map. Buckets of the two maps are the same if their ids are equal.
-/// Fails only if memory runs out.
+/// Writes a list with an object for each rule that differs, or that only one of the maps has. If
+/// only the order of the rules differs, the list has one object instead, which says that the order
+/// differs. After these objects, the list has an object for each `take` step of the new map's rules
+/// that takes nothing any more. A step takes nothing any more if the devices that it takes had a
+/// total weight above 0 in the old map, and have the total weight 0 in the new map. Buckets of the
+/// two maps are the same if their ids are equal. Fails only if memory runs out.
 pub(crate) fn push_rule_changes<A: Allocator, B: Allocator>(
     alloc: Global,
     old: &CrushMap<A>,

@@ -22,8 +22,8 @@ use crush_units::ItemId;
 use std::alloc::{AllocError, Allocator, Global};
 
 /// Writes an object with everything that has changed from the old map to the new map. If `under` is
-/// an item, the object has only the changes of this item and of the items that are below it in
-/// either map. Fails only if memory runs out.
+/// an item, the object has only the changes of this item, and of the items that are below it in at
+/// least one of the two maps. Fails only if memory runs out.
 pub(crate) fn push_since<A: Allocator, B: Allocator>(
     alloc: Global,
     old: &CrushMap<A>,
@@ -150,7 +150,7 @@ fn push_rules<A: Allocator, B: Allocator>(
     push_rule_changes(alloc, old, new, out)
 }
 
-/// Writes the total weights of the placed devices of both maps: first the total weight in the old
+/// Writes the total weights of all devices that buckets hold: first the total weight in the old
 /// map, and then the total weight in the new map.
 fn push_totals(before: u64, after: u64, out: &mut Document) -> Result<(), AllocError>
     ensures { OnOk result (out.new ≡ out.old

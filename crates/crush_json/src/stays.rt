@@ -8,8 +8,8 @@ ghost use Rattle.crush_json.specs.Tokens.{tokens_of, tokens_of_all};
 use crate::document::Document;
 use std::alloc::{AllocError, Global};
 
-/// Writes a list with a text for each line of `rest`. In the texts, U+FFFD replaces bytes that
-/// aren't UTF-8. Fails only if memory runs out.
+/// Writes a list with a text for each line of `rest`. If a line has bytes that aren't UTF-8, U+FFFD
+/// replaces these bytes in the text. Fails only if memory runs out.
 pub(crate) fn push_stays(
     alloc: Global,
     rest: &[Vec<u8>],

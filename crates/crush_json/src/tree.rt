@@ -21,9 +21,9 @@ use std::alloc::{AllocError, Allocator};
 
 /// Writes the tree of these steps, which are the steps of a walk through the map's tree. `buckets`
 /// are all buckets of the map, in the order in which
-/// [`buckets_in_order`](crate::items::buckets_in_order) returns them. The children of a bucket's
-/// node are all items of the bucket, even the items that are not among the steps. Fails only if
-/// memory runs out.
+/// [`buckets_in_order`](crate::items::buckets_in_order) returns them. A bucket's node lists the ids
+/// of all items of the bucket, even of the items that are not among the steps. Fails only if memory
+/// runs out.
 #[tactic(auto, unfolding(crate::specs::TreeDocument::tree_document))]
 pub(crate) fn push_tree<A: Allocator>(
     setting: &Setting,
@@ -43,8 +43,9 @@ pub(crate) fn push_tree<A: Allocator>(
     out.end_object()
 }
 
-/// Writes a list with a node for each step whose item is stray if `stray` is true. Otherwise writes
-/// a list with a node for each of the other steps. [`is_stray`] says which items are stray.
+/// If `stray` is true, writes a list with a node for each step whose item is stray. If `stray` is
+/// false, writes a list with a node for each step whose item isn't stray. [`is_stray`] says which
+/// items are stray.
 fn push_nodes<A: Allocator>(
     setting: &Setting,
     buckets: &[&Bucket<A>],

@@ -122,7 +122,7 @@ fn line_of(document: Document) -> Result<Vec<u8>, AllocError>
 }
 
 /// Returns `count`, or 2^32 if `count` is greater. The callers multiply the result by a number of
-/// bytes per item or per edit, and the bound keeps this product from overflowing.
+/// bytes for each item or edit. The bound ensures that this product doesn't overflow.
 fn bounded(count: usize) -> usize
     ensures { result ≤ 2 ^ 32 }
 {

@@ -25,12 +25,14 @@ use std::io::Write;
 const USUAL_COMMAND: usize = 96;
 
 /// Writes `{"aside":A,"history":H,"plan":[..],"stays":[..]}` and a line feed. If there is no
-/// history, the document has no member `history`. `plan` has a command for each edit, with the keys
-/// of Ceph's own table of commands. A weight is a decimal number with six digits after the point,
-/// because a monitor of Ceph refuses a whole number as a weight. `stays` has a text for each line
-/// of `rest`. These lines describe the differences that remain after the plan. A has two members,
+/// history, the document has no member `history`. `plan` is a list with a command for each edit,
+/// with the keys of Ceph's own table of commands. The weight in a command is in TiB, and is written
+/// with six digits after the point, such as `1.000000`. A monitor of Ceph refuses a weight that is
+/// written as a whole number, such as `1`. `stays` is a list with one text for each line of `rest`.
+/// The lines of `rest` describe the differences that remain after the plan. A has two members,
 /// which are the arguments `ids` and `class_ids`: the number of buckets whose ids differ, and the
-/// number of buckets whose class ids differ.
+/// number of buckets whose class ids differ. The class ids of a bucket are its ids for device
+/// classes.
 ///
 /// Fails with [`WriteFault::OutOfMemory`] if memory runs out. In this case, nothing has been
 /// written. Fails with [`WriteFault::Write`] if `out` fails or accepts no byte. In this case, a
