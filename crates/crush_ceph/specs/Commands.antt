@@ -51,7 +51,7 @@ abbrev pub with_step : CephStep → List (List CephStep) → List (List CephStep
 with_step step [] = (step ∷ []) ∷ []
 with_step step (c ∷ cs) = if second_joins (step ∷ c) then (step ∷ c) ∷ cs else (step ∷ []) ∷ c ∷ cs
 
--- CUT: the commands that do these steps, in the same order. Each command is given as the list of the steps that it does
+-- CUT: the commands into which the steps are divided, in the same order. Each command is given as the list of the steps that it does
 abbrev pub cut : List CephStep → List (List CephStep)
 cut [] = []
 cut (step ∷ steps) = with_step step (cut steps)

@@ -49,7 +49,7 @@ rule_takes_with_class b r = list_any (takes_with_class b) r.steps
 abbrev pub is_taken_with_class : SettingData → ℕ → Bool
 is_taken_with_class s b = list_any (rule_takes_with_class b) s.rules
 
--- LEAVES AN OLD NAME: whether the edit renames a bucket, and a rule has a step `take` with this bucket and with a class. For such a rule, Ceph has a copy of the bucket with only the devices of this class. After the edit, this copy keeps the old name until `reweight-all`
+-- LEAVES AN OLD NAME: whether Ceph keeps an old name after the edit. This is the case if the edit renames a bucket, and a rule has a step `take` with this bucket and with a class. For such a rule, Ceph has a copy of the bucket with only the devices of this class. After the edit, this copy keeps the old name until `reweight-all`
 abbrev pub leaves_old_name : SettingData → List Row → Edit → Bool
 leaves_old_name s t (Rename from to) = meets (is_taken_with_class s) (bucket_named t from)
 leaves_old_name s t e = false

@@ -12,7 +12,7 @@ use Rattle.crush_ceph.specs.Steps.{ceph_steps}
 use Rattle.crush_ceph.specs.declared.steps.CephStep.{CephStep}
 use Rattle.crush_ceph.specs.declared.steps.CephStep.TheVariants.{Does, ReweightAll}
 
--- what Ceph requires of an edit beyond the forms of its words. The location of a `move` has at least one pair (a `move` without a pair is refused with `NoPlace`). The device of a `set-device-class` or `rm-device-class` isn't called `all` or `any`, because Ceph reads these words as all devices. Ceph reads `*` in the same way, but no name has this character
+-- what Ceph requires of an edit, in addition to the forms of the edit's words. The location of a `move` has at least one pair (a `move` without a pair is refused with `NoPlace`). The device of a `set-device-class` or `rm-device-class` isn't called `all` or `any`, because Ceph reads these words as all devices. Ceph reads `*` in the same way, but no name has this character
 abbrev pub IsForCeph : Edit → Type 0
 IsForCeph (Move name at) = 0 < length at
 IsForCeph (SetClass name class) = is_all_devices name ≡ false

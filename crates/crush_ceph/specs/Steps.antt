@@ -7,7 +7,7 @@ use Rattle.crush_ceph.specs.ForCeph.{edit_for_ceph, leaves_old_name, table_after
 use Rattle.crush_ceph.specs.declared.steps.CephStep.{CephStep}
 use Rattle.crush_ceph.specs.declared.steps.CephStep.TheVariants.{Does, ReweightAll}
 
--- `reweight-all` if it is due, and otherwise nothing
+-- a list with the step `reweight-all` if this step is due; otherwise the empty list
 abbrev pub reweight_if : Bool → List CephStep
 reweight_if is_due = if is_due then ReweightAll ∷ [] else []
 
@@ -16,7 +16,7 @@ abbrev pub first_leaves_old_name : SettingData → List Row → List Edit → Bo
 first_leaves_old_name s t [] = false
 first_leaves_old_name s t (e ∷ es) = leaves_old_name s t e
 
--- STEPS: each edit in the form in which Ceph accepts it. The step `reweight-all` follows an edit that leaves an old name, unless the next edit leaves an old name, too. So after several such edits in a row, `reweight-all` follows only the last of them. The map has the setting s (its types, tunables and rules), and t is the table before the first edit. The table before each later edit is the one after all earlier edits
+-- STEPS: each edit in the form in which Ceph accepts it. The step `reweight-all` follows an edit that leaves an old name, unless the next edit leaves an old name, too. So if several such edits directly follow one another, `reweight-all` follows only the last of them. The map has the setting s (its types, tunables and rules), and t is the table before the first edit. The table before each later edit is the one after all earlier edits
 unfoldable pub ceph_steps : SettingData → List Row → List Edit → List CephStep
 ceph_steps s t [] = []
 ceph_steps s t (e ∷ es) =

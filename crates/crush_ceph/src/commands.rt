@@ -1,4 +1,5 @@
-//! Which steps one command of Ceph does, and the line of this command.
+//! Which steps one command of Ceph does, and the line of this command. A step is an edit, or
+//! `reweight-all`.
 
 ghost use Rattle.std.specs.Prelude.{◌≡◌, ◌≤◌, ◌<◌, ◌+◌, ◌∷◌, ◌++◌, OnOk, codes, drop, flat_map, length, take, true};
 ghost use Rattle.std.specs.List.{list_any};
@@ -80,8 +81,9 @@ fn joins_next(steps: &[CephStep], index: usize) -> bool
     }
 }
 
-/// Returns how many of the steps the first command does, if the steps are cut into commands. The
-/// first command does the steps at the beginning of the list.
+/// Returns how many steps the first command does. The steps are divided into commands, each of
+/// which does one step or several steps that follow one another. The first command does the steps
+/// at the beginning of the list.
 pub(crate) fn first_command(steps: &[CephStep]) -> usize
     requires { 0 < length steps.now }
     ensures some { 0 < result }

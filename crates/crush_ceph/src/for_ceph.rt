@@ -26,8 +26,8 @@ fn sets_unplaced(map: &CrushMap<Global>, edit: &Edit) -> bool
     }
 }
 
-/// Turns the way in which `set` places a device into the way of `add`. Returns any other way
-/// unchanged.
+/// Returns the way in which `add` places a device, if `how` is the way in which `set` places a
+/// device. Returns any other way unchanged.
 fn added_way(how: Placing) -> Placing
     ensures { result ≡ added_way how }
 {
@@ -124,10 +124,10 @@ fn bucket_named(map: &CrushMap<Global>, name: &Name<Global>) -> Option<BucketId>
     }
 }
 
-/// Whether the edit leaves an old name. An edit does so if it renames a bucket, and a rule of the
-/// map has a step `take` with this bucket and a class. For such a rule, Ceph has a copy of the
-/// bucket with only the devices of this class. After the edit, this copy keeps the old name until
-/// `reweight-all`.
+/// Whether Ceph keeps an old name after the edit. This is the case if the edit renames a bucket,
+/// and a rule of the map has a step `take` with this bucket and a class. For such a rule, Ceph has
+/// a copy of the bucket with only the devices of this class. After the edit, this copy keeps the
+/// old name until `reweight-all`.
 pub(crate) fn leaves_old_name(map: &CrushMap<Global>, edit: &Edit) -> bool
     ensures { (t : List Row) → Stands map.now.forest t
         → result ≡ leaves_old_name map.now.setting t edit.now }
@@ -141,9 +141,9 @@ pub(crate) fn leaves_old_name(map: &CrushMap<Global>, edit: &Edit) -> bool
     }
 }
 
-/// Applies an edit of a history or of a plan to a map. Callers use this function to repeat such
-/// edits. If the edit is refused, the function succeeds, and the map is unchanged. Fails only if
-/// memory runs out, and the map is then unchanged, too.
+/// Applies an edit of a history or of a plan to a map. Callers use this function to apply such
+/// edits once more. If the edit is refused, the function succeeds, and the map is unchanged. Fails
+/// only if memory runs out, and the map is then unchanged, too.
 pub fn redo_edit(map: &mut CrushMap<Global>, edit: &Edit) -> Result<(), AllocError>
     ensures stands { OnOk result ((t : List Row) → Stands map.old.forest t
         → Stands map.new.forest (table_after_edit map.old.setting t edit.now)) }

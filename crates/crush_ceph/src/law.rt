@@ -7,7 +7,7 @@ ghost use Rattle.crush_ceph.specs.LawLines.{EachLineMeansItsEdits, LinesMeanTheE
 /// A law: the commands in the text of [`ceph_text`](crate::ceph_text) do exactly the given edits,
 /// each edit once, and in the same order. Each edit has the form in which Ceph accepts it, so a
 /// `set` of a device that no bucket holds has become an `add`. The text may also have commands
-/// `reweight-all`, which belong to none of the given edits.
+/// `reweight-all`, which do none of the given edits.
 pub fn commands_do_the_edits()
     ensures steps { CommandsDoTheSteps }
     ensures edits { CommandsDoTheEdits }

@@ -47,10 +47,10 @@ fn push_edit(
     Ok(())
 }
 
-/// Appends the step of an edit, and then applies the edit to the map. `is_due` says whether the
-/// previous edit leaves an old name, as [`leaves_old_name`] defines this. If `is_due` is true and
-/// this edit leaves no old name, first appends `reweight-all`. Returns whether this edit leaves an
-/// old name.
+/// Appends the step of an edit, and then applies the edit to the map. `is_due` says whether Ceph
+/// keeps an old name after the previous edit ([`leaves_old_name`]). If `is_due` is true, and
+/// [`leaves_old_name`] is false for this edit, the function first appends `reweight-all`. Returns
+/// the result of [`leaves_old_name`] for this edit.
 fn push_step(
     alloc: Global,
     map: &mut CrushMap<Global>,

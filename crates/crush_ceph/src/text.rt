@@ -13,8 +13,8 @@ use crush_history::push_ceph_heading;
 use crush_map::CrushMap;
 use std::alloc::{AllocError, Global};
 
-/// Cuts the steps into commands, appends a line for each command, and returns the number of
-/// commands.
+/// Divides the steps into commands, each of which does one step or several steps that follow one
+/// another. Appends a line for each command, and returns the number of commands.
 fn push_commands(steps: &[CephStep], text: &mut Vec<u8>) -> Result<u64, AllocError>
     ensures lines { OnOk result (text.new.items
         ≡ text.old.items ++ flat_map command_line (cut steps.now)) }
@@ -44,23 +44,24 @@ fn commands_text(alloc: Global, steps: &[CephStep]) -> Result<Vec<u8>, AllocErro
 }
 
 /// Returns the edits as Ceph's own commands, as lines for a shell. `opening` is the map before the
-/// first edit. The function doesn't check whether the map refuses an edit. Fails if memory runs
-/// out.
+/// first edit. The function succeeds even if one of the edits would be refused, and the text then
+/// also has the command of this edit. The function fails only if memory runs out.
 ///
-/// The first line is `# N commands`. N lines follow, one for each command. Each of these lines has
-/// the words `ceph osd crush`, and then the words of the command. A command that does one edit has
-/// the words of this edit as in a history line, but its weights have six digits after the point.
-/// Ceph, which rounds weights down, then reads exactly the weights of the edit. If a word of an
-/// edit, except for its first word, begins with `-`, the line has `--` before the words of the
-/// command, because Ceph would otherwise read this word as an option.
+/// The first line is `# N commands`. N lines follow, one for each command. Each of these lines
+/// begins with the words `ceph osd crush`, and then has the words of the command. If a command does
+/// one edit, its words are those of the edit in a history line, but a weight has six digits after
+/// the point. Ceph rounds weights down, and reads exactly the weight of the edit from these six
+/// digits. If any word of an edit except for the first word begins with `-`, Ceph would read this
+/// word as an option. In this case, the line has `--` before the words of the command.
 ///
 /// - An `add-bucket` and the `move` of the same bucket directly after it are written as one
-///   command. Several `rm-device-class` in a row are written as one command, and so are several
-///   `set-device-class` with the same class in a row.
+///   command. Several `rm-device-class` that directly follow one another are written as one
+///   command. So are several `set-device-class` with the same class that directly follow one
+///   another.
 /// - If no bucket holds the device of a `set`, then the `set` is written as an `add`.
 /// - The command `reweight-all` follows a `rename-bucket` of a bucket if a rule has a step `take`
-///   with this bucket and a class. After several such `rename-bucket` in a row, `reweight-all`
-///   follows only the last of them.
+///   with this bucket and a class. If several such `rename-bucket` directly follow one another,
+///   `reweight-all` follows only the last of them.
 /// - The line of a `swap-bucket` ends in ` --yes-i-really-mean-it`, because Ceph requires this
 ///   option if the two buckets have different parents.
 pub fn ceph_text(
