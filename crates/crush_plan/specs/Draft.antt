@@ -16,7 +16,7 @@ use Rattle.crush_plan.specs.Part.{HasPartBelow, IsAllowed, WeighsPart}
 abbrev pub Allows : {A B : _} → PlanGoal A B → List Row → Edit → Type 0
 Allows goal v e = (t u : List Row) → Stands goal.before.now.forest t → Stands goal.wanted.now.forest u → IsAllowed t u (option_map (λ name. name.now) goal.under) v e
 
--- `MayWeigh`: if the edit e sets all weights below a bucket, then each item below this bucket is one that the plan may change (`WeighsPart`). `MayWeighBelow`: each item below the item i is one that the plan may change (`HasPartBelow`). The table v is that of the map to which the edit is applied
+-- `MayWeigh`: if the edit e sets all weights below a bucket, then each item below this bucket is one that the plan may change (`WeighsPart`). `MayWeighBelow`: each item below the item i is one that the plan may change (`HasPartBelow`). v is the table of the map to which the edit is applied
 abbrev pub MayWeigh : {A B : _} → PlanGoal A B → List Row → Edit → Type 0
 MayWeigh goal v e = (t u : List Row) → Stands goal.before.now.forest t → Stands goal.wanted.now.forest u → WeighsPart t u (option_map (λ name. name.now) goal.under) v e
 
@@ -27,7 +27,7 @@ MayWeighBelow goal v i = (t u : List Row) → Stands goal.before.now.forest t �
 abbrev pub LeadsTo : {A B : _} → PlanGoal A B → SettingData → List Row → List Edit → ForestData → Type 0
 LeadsTo goal s t es f = (u : List Row) × Leads (Allows goal) s t es u × Stands f u
 
--- the new draft continues the old draft: it has the edits of the old draft followed by further edits, which lead from the old draft's map to the new draft's map
+-- the new draft continues the old draft: it has the edits of the old draft, and then further edits. These further edits lead from the old draft's map to the new draft's map
 pub record GoesOn {A B : _} (goal : PlanGoal A B) (old new : Draft A) : Type 0 where
   pub setting : new.map.setting ≡ old.map.setting
   pub more : List Edit

@@ -40,8 +40,9 @@ fn add_device<A: Allocator + Clone, B: Allocator>(
 }
 
 /// Adds the device to the bucket that has the same name as the device's bucket in the wanted map.
-/// Does nothing if an item already has the device's name, if no bucket holds the device in the
-/// wanted map, or if the map has no bucket of that name. `there` is the device in the wanted map.
+/// Does nothing if an item of the map already has the device's name, if no bucket holds the device
+/// in the wanted map, or if the map has no bucket with the name of the device's bucket. `there` is
+/// the device in the wanted map.
 fn put_device<A: Allocator + Clone, B: Allocator>(
     draft: &mut Draft<A>,
     goal: &PlanGoal<'_, A, B>,

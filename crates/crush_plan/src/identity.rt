@@ -138,8 +138,8 @@ impl BucketPairs {
         Ok(pairs)
     }
 
-    /// `item` is an item of the map. If it is a bucket that is matched with a bucket of the wanted
-    /// map, appends the pair of the two buckets.
+    /// `item` is an item of the map. If `item` is a bucket that is matched with a bucket of the
+    /// wanted map, appends the pair of the two buckets.
     fn push<A: Allocator, B: Allocator>(
         &mut self,
         identity: Identity,

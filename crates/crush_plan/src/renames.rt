@@ -25,7 +25,8 @@ use std::alloc::{AllocError, Allocator, Global};
 const LONGEST_STEM: usize = 240;
 
 /// Renames each bucket whose matched bucket in the wanted map has a different name, if the plan may
-/// rename it, and if no other item keeps the new name.
+/// rename it, and if no other item keeps the new name. The buckets of a cycle are renamed only if
+/// at least one of them was in the part of the map before the plan's first edit ([`break_cycle`]).
 pub(crate) fn rename_all<A: Allocator + Clone, B: Allocator>(
     draft: &mut Draft<A>,
     goal: &PlanGoal<'_, A, B>,

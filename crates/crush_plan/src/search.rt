@@ -19,10 +19,10 @@ use crush_units::DeviceId;
 use std::alloc::{AllocError, Allocator, Global};
 
 /// The largest number of rounds of a search. In each round, the search builds one or more lists of
-/// edits. It appends the best of these lists to the plan if fewer differences remain after it than
-/// before the round. Each round starts from the map to which the earlier rounds have led. So edits
-/// that were refused in an earlier round may now succeed. In tests with random maps, no plan has
-/// needed all of these rounds.
+/// edits. If fewer differences remain after the best of these lists than before the round, the
+/// search appends this list to the plan. Each round starts from the map to which the earlier rounds
+/// have led. So edits that were refused in an earlier round may now succeed. In tests with random
+/// maps, no plan has needed all of these rounds.
 const MOST_ROUNDS: usize = 8;
 
 /// A draft that starts from the map of another draft, and the number of differences that remain
@@ -187,10 +187,10 @@ fn try_edits<A: Allocator + Clone, B: Allocator>(
 
 /// Gives the draft the edits that lead toward the wanted map, with the buckets matched as in `way`.
 ///
-/// Removals come first, because the number of devices and buckets of a map is limited. Weights are
-/// lowered before items are moved or added, so that fewer of the later edits are refused because a
-/// sum of weights would be too large. The devices `later` get no edits of their own that lower
-/// their weights early.
+/// The function begins with removals, because the number of devices and buckets of a map is
+/// limited. Weights are lowered before items are moved or added, so that fewer of the later edits
+/// are refused because a sum of weights would be too large. The devices `later` get no edits of
+/// their own that lower their weights early.
 fn build_edits<A: Allocator + Clone, B: Allocator>(
     draft: &mut Draft<A>,
     goal: &PlanGoal<'_, A, B>,

@@ -127,7 +127,8 @@ fn push_comments(lines: &[u8], text: &mut Vec<u8>) -> Result<(), AllocError>
     Ok(())
 }
 
-/// Appends the byte. If `at_head` says that it is the first byte of a line, appends `# ` before it.
+/// Appends the byte. If `at_head` is true, the byte is the first byte of a line, and the function
+/// appends `# ` before it.
 fn push_marked(at_head: bool, byte: u8, text: &mut Vec<u8>) -> Result<(), AllocError>
     ensures { OnOk result (text.new.items ≡ text.old.items ++ (mark at_head ++ byte ∷ [])) }
 {

@@ -44,8 +44,8 @@ impl<'a, A: Allocator> Way<'a, A> {
         self.start.name_of(ItemId::Bucket(pair.current))
     }
 
-    /// `current` is a bucket of the map. If it is matched with a bucket of the wanted map that has
-    /// a different name, returns the pair of the two buckets. Otherwise returns `None`.
+    /// `current` is a bucket of the map. If `current` is matched with a bucket of the wanted map
+    /// that has a different name, returns the pair of the two buckets. Otherwise returns `None`.
     pub(crate) fn renamed<B: Allocator>(
         &self,
         goal: &PlanGoal<'_, A, B>,
