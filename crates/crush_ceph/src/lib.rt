@@ -2,7 +2,7 @@
 //!
 //! [`ceph_text`] takes a list of edits, and the map before the first edit. It returns a text with
 //! the number of commands, and a line for each command. If one command of Ceph can do several edits
-//! that follow one another, these edits have one line together.
+//! that follow one another, one line has the command for all of these edits.
 #![tactic(auto)]
 
 mod commands;

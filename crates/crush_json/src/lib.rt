@@ -4,9 +4,9 @@
 //! A document is one JSON value on one line. The members of each object are sorted by name. For
 //! data that Ceph's tools also print as JSON, the members have the same names as there. The page
 //! `docs/user/json.md` describes each document, and `specs/` defines its value. A weight is a whole
-//! number of units, of which 65536 are 1.0. The exception is a weight in a command of a plan, which
-//! is a decimal number. The text of a document is built in memory, token by token, before any byte
-//! of it is written.
+//! number of units, of which 65536 are one TiB. The exception is a weight in a command of a plan,
+//! which is a decimal number of TiB. The text of a document is built in memory, token by token,
+//! before any byte of it is written.
 #![tactic(auto)]
 
 mod buckets;

@@ -48,7 +48,7 @@ with_output_flags = with_rule (with_rule (with_rule (with_rule with_modes (flag 
 abbrev pub with_parts : App
 with_parts = with_rule (with_rule (with_rule (with_rule with_output_flags (flag (codes "by-name"))) (flag (codes "json"))) (option (codes "under"))) (option (codes "down-to"))
 
--- `with_parts`, and four more: the option that names a class of devices, so that only these devices are counted, and the flags that say how weights are printed, whether the exit status reports a change, and whether standard error also says why something is an error
+-- `with_parts`, and four more: the option that names a class of devices, and three flags. If the option is given, only the devices of this class are counted. The flags say how weights are printed, whether the exit status reports a change, and whether standard error also says why something is an error
 abbrev pub with_ends : App
 with_ends = with_rule (with_rule (with_rule (with_rule with_parts (option (codes "class"))) (flag (codes "exact"))) (flag (codes "exit-code"))) (flag (codes "explain"))
 

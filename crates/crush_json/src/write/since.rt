@@ -29,11 +29,11 @@ const USUAL_CHANGES: usize = 4096;
 ///
 /// If `under` is `None`, S has an object for each item about which the two maps say different
 /// things. The object says what the item was and what it is. The objects are in the order of the
-/// items' ids: first the buckets from -1 downward, and then the devices upward. S also has the
-/// rules and the classes that differ, the number of items that differ in each way, whether the
-/// tunables and the types differ, and the total weights of both maps. If `under` is an item, S has
-/// only the objects for this item and for the items that are below it in at least one of the two
-/// maps.
+/// items' ids: first the buckets, from the id -1 downward, and then the devices, by ascending id. S
+/// also has the rules and the classes that differ, the number of items that differ in each way,
+/// whether the tunables and the types differ, and the total weights of both maps. If `under` is an
+/// item, S has only the objects for this item and for the items that are below it in at least one
+/// of the two maps.
 ///
 /// To compare the items, the call visits each item of each map once, and sorts the items of each
 /// map once. If `under` is `None`, the call also compares the classes and the rules, and visits
