@@ -21,9 +21,9 @@ use std::alloc::{AllocError, Allocator};
 
 /// Writes the tree of these steps, which are the steps of a walk through the map's tree. `buckets`
 /// are all buckets of the map, in the order in which
-/// [`buckets_in_order`](crate::items::buckets_in_order) returns them. A bucket's node lists the ids
-/// of all items of the bucket, even of the items that are not among the steps. Fails only if memory
-/// runs out.
+/// [`buckets_in_order`](crate::items::buckets_in_order) returns them. The member `children` of a
+/// bucket's node has the ids of all items of the bucket, even of the items that are not among the
+/// steps. Fails only if memory runs out.
 #[tactic(auto, unfolding(crate::specs::TreeDocument::tree_document))]
 pub(crate) fn push_tree<A: Allocator>(
     setting: &Setting,

@@ -30,10 +30,10 @@ const USUAL_NODE: usize = 96;
 /// Writes `{"history":H,"tree":T}` and a line feed. If there is no history, writes `{"tree":T}` and
 /// a line feed. T has a node for each item of the part. If `ceph osd tree -f json` prints the same
 /// data, the node has Ceph's keys. The weight of an item is in units (1/65536 TiB), with the key
-/// `weight`. Ceph prints this weight in TiB, with the key `crush_weight`. T has two lists: `stray`
-/// has the nodes of the devices that no bucket holds, and `nodes` has all other nodes. Each list is
-/// in the order of [`walk_part`]. A bucket's node lists the ids of all items of the bucket, even of
-/// the items that are not in the part.
+/// `weight`. Ceph prints the weight of a device in TiB, with the key `crush_weight`. T has two
+/// lists: `stray` has the nodes of the devices that no bucket holds, and `nodes` has all other
+/// nodes. Each list is in the order of [`walk_part`]. The member `children` of a bucket's node has
+/// the ids of all items of the bucket, even of the items that are not in the part.
 ///
 /// Fails with [`WriteFault::OutOfMemory`] if memory runs out. In this case, nothing has been
 /// written. Fails with [`WriteFault::Write`] if `out` fails or accepts no byte. In this case, a
