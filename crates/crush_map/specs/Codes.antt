@@ -1,4 +1,4 @@
--- An encoding that writes each map as a value of one plain type, from which the map can be decoded again.
+-- An encoding of maps. Each map is encoded as a pair of a setting and a forest, from which the map can be decoded again.
 use Rattle.std.specs.Prelude.{refl}
 use Rattle.std.specs.Coded.{Coded, code_by, coded×}
 use Rattle.crush_model.specs.Forest.{ForestData}

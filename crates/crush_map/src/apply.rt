@@ -51,15 +51,19 @@ impl<A: Allocator> CrushMap<A> {
         apply_edit(&mut self.hierarchy, &self.setting, requested)
     }
 
-    /// Returns the name that a refusal is about. The name is one of the names in the refused edit.
-    /// A caller can print it in a message.
+    /// Returns the name in the edit that the refusal is about. A caller can print this name in a
+    /// message.
     ///
-    /// If the edit's location is at fault, the result is the name of a type or a bucket in the
-    /// location. If the type of a new bucket is at fault, the result is the name of this type. If
-    /// the edit names two items, the result is the name that is at fault. Otherwise the result is
-    /// the name of the item to edit. Call this method on the map that refused the edit. In a batch,
-    /// this is the map after the edits that precede the refused edit; a failed batch undoes these
-    /// edits, so the caller has to apply them again.
+    /// If a name in the edit's location is at fault, the result is this name. It is the name of a
+    /// type, or the name that the location gives for a bucket. If the type of a new bucket is at
+    /// fault, the result is the name of this type. For a swap, the result is the first name, unless
+    /// only the second name is at fault. For a rename, the result is the new name if this name is
+    /// at fault, and otherwise the old name. In all other cases the result is the name of the item
+    /// to edit.
+    ///
+    /// Call this method on the map that refused the edit. For an edit of a batch, this is the map
+    /// after the previous edits of the batch. A failed batch undoes these edits, so the caller has
+    /// to apply them again before this call.
     pub fn culprit<'a>(&self, requested: &'a Edit, refusal: Refusal) -> &'a Name<Global>
         ensures { (t : List Row) → Stands self.now.forest t
             → result.now ≡ culprit self.now.setting t requested.now refusal }
@@ -69,12 +73,13 @@ impl<A: Allocator> CrushMap<A> {
 
     /// Applies a batch of at most 65,536 edits in order: either all of them, or none.
     ///
-    /// Each edit is applied to the map as the edits before it have changed it. Returns how many
-    /// edits the batch has, how many of them changed the map, and how many buckets they created. If
-    /// an edit is refused, returns [`BatchFault::Refused`] with the index of the first refused
-    /// edit, from 0, and with the refusal. Returns [`BatchFault::OutOfMemory`] if memory runs out,
-    /// even if a later edit would be refused. After an error the map is as before, because the
-    /// edits that were already applied are undone.
+    /// Each edit is applied to the map that the previous edits of the batch have produced. Returns
+    /// how many edits the batch has, how many of them changed the map, and how many buckets they
+    /// created. If an edit is refused, returns [`BatchFault::Refused`] with the index of the first
+    /// refused edit, from 0, and with the refusal. Returns [`BatchFault::OutOfMemory`] if memory
+    /// runs out, even if a later edit would be refused. After an error the map is exactly as
+    /// before, including the spare capacity of its vectors, because the edits that were already
+    /// applied are undone.
     pub fn apply_batch(&mut self, edits: &[Edit]) -> Result<Dones, BatchFault>
     where
         A: Clone,
