@@ -1,4 +1,4 @@
--- The state of a builder, the draft that it represents, and the tests that a parser makes before each step. A draft (`Draft`) is what has been built so far; it has a table where the builder has a forest.
+-- The state of a builder, the draft that it represents, and the tests that a parser can make before each step. A draft (`Draft`) is what has been built so far; it has a table where the builder has a forest.
 pub use Rattle.crush_edits.specs.Setting.{has_tunable}
 use Rattle.std.specs.Prelude.{◌≡◌, ℕ, ◌<◌, ◌≤◌, List, [], ◌∷◌, All, map, Option, Some, None, Bool, true, false, ◌==◌, ◌||◌, ◌&&◌, if◌then◌else◌, length, bytes_eq, nat_lt, nat_le, is_some, option_and_then}
 use Rattle.std.specs.List.{count_by, list_any}
@@ -16,7 +16,7 @@ use Rattle.crush_edits.specs.Fits.{Fits}
 use Rattle.crush_builder.specs.Built.{Pending, nothing, begun, numbered, filling, Draft}
 use Rattle.crush_units.specs.declared.limits.TheConstants.{FARTHEST_BUCKET_ID, LAST_TYPE, MOST_BUCKETS, MOST_CLASS_IDS, MOST_DEVICES, MOST_TUNABLES, MOST_TYPES}
 
--- a builder as contracts see it: its setting, its forest, the incomplete bucket, and how often a written weight of a bucket was replaced by the bucket's sum
+-- a builder as contracts see it: its setting, its forest, the incomplete bucket, and how often a written weight of a bucket was replaced by the sum of the weights of the devices below the bucket
 pub record BuilderData : Type 0 where
   pub setting : SettingData
   pub forest : ForestData

@@ -15,7 +15,7 @@ pub data Pending : Type 0 where
   numbered : ℕ → List ℕ → ℕ → List ShadowData → Pending
   filling : ℕ → Pending
 
--- what has been built so far: the setting, the table, the incomplete bucket, and how often a bucket, as an item, was written with a weight other than its sum
+-- what has been built so far: the setting, the table, the incomplete bucket, and how often an item that is a bucket was written with another weight than its sum (the sum of the weights of the devices below the bucket)
 pub record Draft : Type 0 where
   pub setting : SettingData
   pub table : List Row
@@ -65,7 +65,7 @@ pending_with_class_id (begun kind name) c = begun kind name
 pending_with_class_id (numbered kind name b class_ids) c = numbered kind name b (class_ids ++ c ∷ [])
 pending_with_class_id (filling b) c = filling b
 
--- the draft after the incomplete bucket gets one more class id: b is the id, for this class
+-- the draft after the incomplete bucket gets one more class id: the id b for this class
 abbrev pub with_class_id : Draft → ℕ → List ℕ → Draft
 with_class_id d b class = record d { pending = pending_with_class_id d.pending (record { id = b; class = class }) }
 
@@ -94,7 +94,7 @@ table_with_item (begun kind name) i w t = t
 table_with_item (numbered kind name b class_ids) i w t = t
 table_with_item (filling b) i w t = put_below b i w t
 
--- the draft after an item is put into the bucket that is being filled; `adjusted` increases by 1 if the item is a bucket and its written weight isn't its sum
+-- the draft after an item is put into the bucket that is being filled; `adjusted` increases by 1 if the item is a bucket and its written weight isn't the sum of the weights of the devices below it
 abbrev pub with_next_item : Draft → ItemId → Option ℕ → Draft
 with_next_item d i w = record d { table = table_with_item d.pending i (weight_or_one w) d.table; adjusted = d.adjusted + adjustment d.table i w }
 

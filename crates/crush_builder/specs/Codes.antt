@@ -1,4 +1,4 @@
--- An encoding of incomplete buckets and of builders as values of one plain type, from which they can be decoded.
+-- Encodings of incomplete buckets and of builders as tuples, from which the buckets and the builders can be decoded again.
 use Rattle.std.specs.Prelude.{◌≡◌, ℕ, List, [], ◌==◌, if◌then◌else◌, refl}
 use Rattle.std.specs.Coded.{Coded, code_by, coded×, coded_ℕ, coded_list}
 use Rattle.crush_model.specs.Items.{ShadowData}

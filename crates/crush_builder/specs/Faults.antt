@@ -1,4 +1,4 @@
--- The faults of a builder's methods, except for the faults of rules, which are in `Rules`. Each fault has a test on the draft; of the faults whose tests are true, the one with the smallest number is returned.
+-- The faults of a builder's methods, except for the faults of rules, which are in `Rules`. Each fault has a test on the draft; of the faults whose tests are true, the one with the smallest number is returned. A method that has to allocate memory can also return OutOfMemory, but only if no test is true.
 use Rattle.std.specs.Prelude.{ℕ, List, [], ◌∷◌, Option, Some, None, Bool, false, not, ◌&&◌, if◌then◌else◌, nat_lt}
 use Rattle.crush_units.specs.declared.id.ItemId.{ItemId}
 use Rattle.crush_units.specs.declared.id.ItemId.TheVariants.{Device}
@@ -24,7 +24,7 @@ build_fault_number TooMany = 14
 build_fault_number SumTooLarge = 15
 build_fault_number OutOfMemory = 16
 
--- what a returned fault says about the draft: the fault is the first one that the draft has. If the returned fault is OutOfMemory, the draft has no fault
+-- what a returned fault says about the method's tests on the draft: it is the fault of the first test that is true. If the returned fault is OutOfMemory, no test is true
 abbrev pub fault_told : BuildFault → Option BuildFault
 fault_told OutOfMemory = None
 fault_told BadWeight = Some BadWeight
@@ -80,7 +80,7 @@ is_heavy_device i w = is_device_id i && is_written_too_heavy w
 abbrev pub is_closed : Draft → ItemId → Bool
 is_closed d i = is_there d.table i && not (is_open d.pending i)
 
--- the fault of putting an item into a bucket: it is a device with too large a weight, it is neither a device nor a complete bucket, a bucket holds it, or with it a bucket or the whole map is too heavy
+-- the fault of putting an item into a bucket: it is a device with too large a weight, it is neither a device nor a complete bucket, a bucket already holds it, or a bucket or the whole map would be too heavy if the item were added
 abbrev pub item_fault : Draft → ItemId → Option ℕ → Option BuildFault
 item_fault d i w =
     first_fault ((BadWeight, is_heavy_device i w) ∷ ((UnknownItem, not (is_closed d i)) ∷ ((SecondParent, is_placed d.table i) ∷ ((SumTooLarge, is_too_heavy (with_next_item d i w).table) ∷ []))))

@@ -19,7 +19,7 @@ use Rattle.crush_builder.specs.Building.{item_named}
 use Rattle.crush_builder.specs.Faults.{fault_told}
 
 -- THE FORM of a rule's words and numbers, which a parser of the text ensures and the builder requires
--- the form of a step: a class has the form of a name, a count fits a signed 32-bit number, and a step that sets a value has its form
+-- the form of a step: a class has the form of a name, a count fits a signed 32-bit number, and the word and the value of a step that sets a value have the form that `IsSet` requires
 abbrev pub IsStepForm : Step → Type 0
 IsStepForm (Take name class) = IfSome class IsName
 IsStepForm (Choose leaf firstn count kind) = IsCount count
@@ -102,6 +102,6 @@ rule_fault d r =
     else (if has_rule_id d.setting r.id then Some (record { part = AtId; fault = DuplicateId })
     else steps_fault d 0 r.steps.items))
 
--- what a returned fault says about the draft: the fault is the first one that the rule has there. If the returned fault is OutOfMemory, the rule has no fault
+-- what a returned fault says about the rule: it is the first fault of the rule. If the returned fault is OutOfMemory, the rule has no fault
 abbrev pub rule_told : RuleFault → Option RuleFault
 rule_told f = if is_some (fault_told f.fault) then Some f else None

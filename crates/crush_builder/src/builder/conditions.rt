@@ -1,5 +1,5 @@
-//! Tests of the map that is being built. `crush_text` makes these tests before it calls a method
-//! that changes the map.
+//! Tests of the map that is being built. `crush_text` uses many of them to find a fault before it
+//! calls a method that changes the map. The methods of the builder use some of them, too.
 
 ghost use Rattle.std.specs.Prelude.{◌≡◌, ◌==◌, ◌↔◌, IsTrue, IfSome, IfOk, map, bytes_eq, true, false};
 ghost use Rattle.std.specs.Option.{ok_or};
@@ -50,8 +50,8 @@ impl<A: Allocator> MapBuilder<A> {
         matches!(self.pending, Pending::Numbered(..))
     }
 
-    /// Whether a bucket has its algorithm and isn't complete yet. The next word is then an item of
-    /// the bucket, or the end of the bucket.
+    /// Whether a bucket has its algorithm and isn't complete yet, so that an item or the end of the
+    /// bucket may come next.
     pub fn is_filling(&self) -> bool
         ensures { result ≡ is_filling self.now.pending }
     {
@@ -75,7 +75,7 @@ impl<A: Allocator> MapBuilder<A> {
 
     /// Whether the incomplete bucket, if it has no algorithm yet, has a class id for this class.
     ///
-    /// Returns `false` if every bucket has its algorithm.
+    /// Returns `false` if no bucket is incomplete, or if the incomplete bucket has its algorithm.
     pub fn has_class(&self, class: &[u8]) -> bool
         ensures { (d : Draft) → IsDraft self.now d → result ≡ has_class d class.now }
     {
@@ -189,8 +189,8 @@ impl<A: Allocator> MapBuilder<A> {
         self.hierarchy.parent(id).is_some()
     }
 
-    /// Returns how often the text gave a bucket, as an item of another bucket, a weight that isn't
-    /// the bucket's sum. The bucket kept its sum each time.
+    /// Returns how often an item that is a bucket was written with another weight than the sum of
+    /// the weights of the devices below it. The bucket kept this sum each time.
     pub fn adjusted(&self) -> u32
         ensures { (d : Draft) → IsDraft self.now d → result ≡ d.adjusted }
     {

@@ -1,5 +1,5 @@
-//! The checks that a method of the builder makes before it changes the map. Each check returns the
-//! first fault that the method has to report.
+//! The checks that a method of the builder makes before it changes the map. A function whose name
+//! ends in `_fault` returns the first fault that the method has to report, or `None`.
 
 ghost use Rattle.std.specs.Prelude.{◌≡◌, ◌∷◌, [], ℕ, true, false, not};
 ghost use Rattle.crush_model.specs.Forest.{all_items, rows_of};
@@ -102,7 +102,7 @@ impl<A: Allocator> MapBuilder<A> {
     }
 
     /// Returns the weight that the item will have in the bucket: `weight` for a device, and the sum
-    /// of its devices' weights for a bucket.
+    /// of the weights of the devices below it for a bucket.
     fn weight_to_come(&self, id: ItemId, weight: Weight) -> Weight
         requires { is_there (rows_of self.now.forest) id ≡ true }
         ensures { result
@@ -120,8 +120,8 @@ impl<A: Allocator> MapBuilder<A> {
         }
     }
 
-    /// Returns 1 if the item is a bucket and the text gives it a weight other than its sum, and 0
-    /// otherwise.
+    /// Returns 1 if the item is a bucket and `written` is another weight than the sum of the
+    /// weights of the devices below it. Returns 0 otherwise.
     pub(super) fn adjustment(&self, id: ItemId, written: Option<Weight>) -> u32
         ensures { (d : Draft) → IsDraft self.now d → is_there d.table id ≡ true
             → result ≡ adjustment d.table id written }

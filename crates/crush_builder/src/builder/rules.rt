@@ -28,8 +28,8 @@ impl<A: Allocator> MapBuilder<A> {
     /// - [`BuildFault::DuplicateName`] at the name: another rule has this name.
     /// - [`BuildFault::DuplicateId`] at the id: another rule has this id.
     /// - The fault of the first faulty step: [`BuildFault::TooMany`] if it is the 65th step,
-    ///   [`BuildFault::UnknownBucketInRule`] if it takes a bucket that isn't a complete bucket of
-    ///   the map, or [`BuildFault::UnknownType`] if it chooses a type that the map doesn't have.
+    ///   [`BuildFault::UnknownBucketInRule`] if it takes a name that no complete bucket has, or
+    ///   [`BuildFault::UnknownType`] if it chooses a type that the map doesn't have.
     /// - [`BuildFault::OutOfMemory`] at the statement: memory ran out.
     pub fn rule(&mut self, rule: &Rule) -> Result<(), RuleFault>
         requires idle { self.old.pending ≡ nothing }
@@ -113,8 +113,8 @@ impl<A: Allocator> MapBuilder<A> {
         None
     }
 
-    /// Returns the fault of the step with this index: [`BuildFault::TooMany`] if a rule can't have
-    /// so many steps, and otherwise the fault of the step's words.
+    /// Returns the fault of the step with this index: [`BuildFault::TooMany`] if it is the 65th
+    /// step or a later one, and otherwise what `word_fault` returns.
     fn step_fault(&self, place: usize, step: &Step) -> Option<BuildFault>
         ensures { (d : Draft) → IsDraft self.now d → result ≡ step_fault d place step.now }
     {
@@ -124,7 +124,8 @@ impl<A: Allocator> MapBuilder<A> {
         self.word_fault(step)
     }
 
-    /// Returns a fault if the step names a bucket or a type that the map doesn't have.
+    /// Returns a fault if the step takes a name that no complete bucket has, or chooses a type that
+    /// the map doesn't have.
     fn word_fault(&self, step: &Step) -> Option<BuildFault>
         ensures { (d : Draft) → IsDraft self.now d → result ≡ word_fault d step.now }
     {
