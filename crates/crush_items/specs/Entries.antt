@@ -19,13 +19,15 @@ row_entry t i r = record { item = row_item t r; class_ids = own_class_ids t i }
 abbrev pub entry_of : List Row → ItemId → Option EntryData
 entry_of t i = option_map (row_entry t i) (row_of t i)
 
--- the entries of plain items (`Items`) that are in the bucket p, whose name is n. An item's entry comes before the entries of the items below it
+-- the entry of a device in the bucket p, whose name is n (both are None if no bucket holds the device)
 abbrev pub device_entry : Option ℕ → Option (List ℕ) → LeafData → EntryData
 device_entry p n d = record { item = record { view = device_view p d; holder = n }; class_ids = [] }
 
+-- the entry of a bucket with the weight w in the bucket p, whose name is n
 abbrev pub bucket_entry : Option ℕ → Option (List ℕ) → HeaderData → ℕ → EntryData
 bucket_entry p n h w = record { item = record { view = bucket_view p h w; holder = n }; class_ids = h.class_ids }
 
+-- the entries of plain items (`Items`) in the bucket p, whose name is n, and of all items below them. The entry of an item comes before the entries of the items below it
 abbrev pub entries_of : Option ℕ → Option (List ℕ) → Items → List EntryData
 entries_of p n none = []
 entries_of p n (device d rest) = device_entry p n d ∷ entries_of p n rest

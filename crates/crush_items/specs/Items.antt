@@ -18,7 +18,7 @@ abbrev pub node_view : {A : _} → Option ℕ → Node A → ViewData
 node_view p (Device l) = device_view p (leaf_data l)
 node_view p (Bucket b) = bucket_view p b.value.header b.value.weight
 
--- the class ids of a bucket; none for a device
+-- the class ids of a bucket; an empty list for a device
 abbrev pub node_class_ids : {A : _} → Node A → List ShadowData
 node_class_ids (Device l) = []
 node_class_ids (Bucket b) = b.value.header.class_ids
@@ -35,7 +35,7 @@ item_entry x = record { item = record { view = node_view x.parent x.node.now; ho
 abbrev pub entry_id : EntryData → ItemId
 entry_id e = e.item.view.id
 
--- ENTRIES OF A TABLE: each entry is what the table says about the entry's id, and there is one entry for each row. (This is said by sums: if each id is given a number, then the numbers have the same sum over the entries as over the rows.)
+-- ENTRIES OF A TABLE: each entry is what the table says about the entry's id, and there is one entry for each row. (The clause `ids` says this by sums: for each function from ids to numbers, the sum over the ids of the entries equals the sum over the ids of the rows.)
 pub record HasEntries (t : List Row) (es : List EntryData) : Type 0 where
   pub told : All (λ e. entry_of t (entry_id e) ≡ Some e) es
   pub ids : (n : ItemId → ℕ) → sum_by (λ e. n (entry_id e)) es ≡ sum_by (λ (r : Row). n r.id) t

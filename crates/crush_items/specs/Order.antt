@@ -4,17 +4,17 @@ use Rattle.crush_units.specs.declared.id.ItemId.{ItemId}
 use Rattle.crush_units.specs.declared.id.ItemId.TheVariants.{Device, Bucket}
 use Rattle.crush_model.specs.Table.{Row, bucket_ids}
 
--- the number n inserted into numbers that are in ascending order
+-- the list with the number n inserted before the first number that is at least n, or at the end if there is no such number. If the list is in ascending order, the result is, too
 abbrev pub put_in : ℕ → List ℕ → List ℕ
 put_in n [] = n ∷ []
 put_in n (x ∷ xs) = if nat_le n x then n ∷ (x ∷ xs) else x ∷ put_in n xs
 
--- the numbers in ascending order
+-- the numbers of the list, sorted in ascending order
 abbrev pub ascending : List ℕ → List ℕ
 ascending [] = []
 ascending (n ∷ ns) = put_in n (ascending ns)
 
--- the number of a device, as a list; nothing for a bucket
+-- a list with the number of the device; an empty list for a bucket
 abbrev pub device_number : ItemId → List ℕ
 device_number (Device d) = d ∷ []
 device_number (Bucket b) = []
@@ -24,7 +24,7 @@ abbrev pub id_number : ItemId → ℕ
 id_number (Device d) = d
 id_number (Bucket b) = b
 
--- the number of the row's bucket, as a list, if the row is a root: a bucket that no bucket holds; nothing for any other row
+-- a list with the number of the row's bucket, if no bucket holds this bucket, which is then a root; an empty list for any other row
 abbrev pub root_number : Row → List ℕ
 root_number r = if is_some r.parent then [] else bucket_ids r.id
 

@@ -32,7 +32,7 @@ pub struct ById {
 
 impl<'a, A: Allocator> Items<'a, A> {
     /// Returns the places of the items, sorted by ascending keys. The method sorts the places once,
-    /// and fails only if memory runs out.
+    /// and returns an error only if memory runs out.
     pub fn by_id(&self, alloc: Global) -> Result<ById, AllocError>
         requires few { length self.now.all.items < 2 ^ 32 }
         ensures { IfOk result (λ by_id. (t : List Row)

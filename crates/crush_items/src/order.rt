@@ -9,8 +9,8 @@ use crush_tree::Node;
 use crush_units::ItemId;
 use std::alloc::{AllocError, Allocator, Global};
 
-/// Returns references to the nodes, sorted by the distances of their ids from 0: devices by
-/// ascending id, buckets from -1 downward. Fails only if memory runs out.
+/// Returns references to the nodes, sorted by the distances of their ids from 0. So devices are
+/// sorted by ascending id, and buckets from -1 downward. Returns an error only if memory runs out.
 pub fn nodes_in_order<A: Allocator>(
     alloc: Global,
     nodes: &[Node<A>],
