@@ -1,4 +1,4 @@
-//! Tests that call each method of an `Index` and of a `Hierarchy` once.
+//! Tests of an `Index` and of a `Hierarchy`, which call almost all of their methods.
 
 mod asked;
 mod asked_changes;

@@ -1,6 +1,6 @@
-//! Tests maps and the crates below `crush_map`. `units` and `edits` test `crush_units` and
-//! `crush_edits`; `tree` tests forests; `hierarchy` tests a hierarchy and its index; `map` tests
-//! `crush_map` and `crush_builder`.
+//! Tests `crush_map`, `crush_builder` and crates that these two use. The module `units` tests
+//! `crush_units`, and `edits` tests `crush_edits`. The module `tree` tests forests, `hierarchy`
+//! tests a hierarchy and its index, and `map` tests `crush_map` and `crush_builder`.
 #![tactic(auto)]
 
 #[cfg(test)]

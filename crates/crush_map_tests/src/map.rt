@@ -1,7 +1,7 @@
-//! Tests the example map: how it is built, and how edits change it, in the global allocator and in
-//! small heaps. The jobs of `examples/worked` show the results of more edits. A test calls `drop`
-//! for each map, builder and edit that it owns, so that the proofs about freeing its parts are
-//! needed in one place only.
+//! Tests the example map: how the map is built, and how edits change the map, in the global
+//! allocator and in small heaps. The jobs in `examples/worked` show the results of more edits. A
+//! test calls `drop` for each map, builder and edit that it owns. So the proof that the parts of
+//! such a value are freed is needed in one place only.
 
 mod asking;
 mod building;

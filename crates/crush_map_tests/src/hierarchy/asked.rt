@@ -1,7 +1,7 @@
 //! Tests how often the methods of a forest use the `Guide` that is passed to them. A guide returns
-//! the place of an item. Each climb from an item to its root should use the guide once for the
-//! item, and once for each bucket above it. A method that searched the forest instead would use the
-//! guide less often, and a method that climbed twice would use it more often.
+//! the place of an item. A method that goes from an item up to its root should use the guide once
+//! for the item, and once for each bucket above the item. If a method searched the forest instead,
+//! it would use the guide less often. If a method went up twice, it would use the guide more often.
 
 ghost use Rattle.std.specs.Option.{option_map};
 ghost use Rattle.std.specs.Prelude.{◌≡◌};
@@ -22,7 +22,8 @@ use std::cell::Cell;
 use std::process::Abort;
 
 /// A guide that counts how often it is used. It finds the place of an item by searching the forest.
-/// It doesn't say at which position among the items of this place the item is.
+/// Its hint is always 0, because it doesn't know the index of the item among the items of this
+/// place.
 #[derive(Drop)]
 pub(super) struct Asked<'f> {
     pub(super) forest: &'f Forest<Global>,
@@ -137,8 +138,8 @@ fn can_move(guide: &Asked<'_>, device: DeviceId, bucket: BucketId, weight: Weigh
         )
 }
 
-/// A climb from osd.0 uses the guide 3 times: for osd.0, for h1 and for the root. A look-up of the
-/// bucket that has osd.0 uses the guide only once.
+/// The way from osd.0 up to the root uses the guide 3 times: for osd.0, for h1 and for the root. A
+/// look-up of the bucket that holds osd.0 uses the guide only once.
 fn asks_for_a_device(rt: &impl Abort, guide: &Asked<'_>) -> bool {
     let id = device_item(rt, 0);
     finds(guide, &id)
@@ -151,8 +152,9 @@ fn asks_for_a_device(rt: &impl Abort, guide: &Asked<'_>) -> bool {
         && guide.was_asked(3)
 }
 
-/// A climb from h1 uses the guide 2 times: for h1 and the root. A move of osd.0 to h2 uses it 3
-/// times for osd.0, and 2 times for h2.
+/// The way from h1 up to the root uses the guide 2 times: for h1 and for the root. The test whether
+/// osd.0 can move to h2 uses the guide 3 times on the way up from osd.0, and 2 times on the way up
+/// from h2.
 fn asks_for_a_bucket(rt: &impl Abort, guide: &Asked<'_>) -> bool {
     let (h1, id, one) = (bucket(rt, 2), bucket_item(rt, 2), Weight::from_units(65536));
     finds(guide, &id)

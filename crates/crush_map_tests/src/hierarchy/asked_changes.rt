@@ -241,8 +241,9 @@ fn exchange_asks(rt: &impl Abort, guide: &Asked<'_>, often: u32) -> bool {
     asks
 }
 
-/// The guide is used once for the item, and once for each bucket above it: osd.0 has two buckets
-/// above it, h1 and h2 have one, and osd.3 is in no bucket.
+/// The guide is used once for the item, and once for each bucket above the item. Two buckets are
+/// above osd.0, one is above h1, one is above h2, and none is above osd.3. An exchange of h1 and h2
+/// uses the guide 2 times for each of them.
 pub(super) fn changes_ask(rt: &(impl Abort + AllocGlobal), guide: &Asked<'_>) -> bool {
     detach_asks(rt, guide, &device_item(rt, 0), 3)
         && detach_asks(rt, guide, &bucket_item(rt, 2), 2)

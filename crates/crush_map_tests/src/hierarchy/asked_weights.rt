@@ -88,8 +88,8 @@ fn sets_all(rt: &impl Abort, guide: &Asked<'_>, id: BucketId, total: u64, often:
     is_set && is_summed
 }
 
-/// The guide is used once for the item, and once for each bucket above it: osd.0 has two buckets
-/// above it, and h1 has one.
+/// The guide is used once for the item, and once for each bucket above the item. Two buckets are
+/// above osd.0, and one is above h1.
 pub(super) fn weights_ask(rt: &impl Abort, guide: &Asked<'_>) -> bool {
     weighs(guide, &device_item(rt, 0), Weight::from_units(65536), 3)
         && weighs(guide, &bucket_item(rt, 2), Weight::from_units(131072), 2)

@@ -1,4 +1,4 @@
-//! Builds a small hierarchy, and calls each method on it once.
+//! Builds a small hierarchy, and calls the methods of this hierarchy.
 
 use super::asks::{fits_attach, fits_move, fits_swap, has_item};
 use super::comes::{put_bucket, put_placed, put_root, put_unplaced};
@@ -176,7 +176,8 @@ fn the_example_answers_every_query(rt: HostRuntime) {
     drop(hierarchy);
 }
 
-/// The root weighs 163840 units, and may weigh at most 4294967295.
+/// The root weighs 163840 units, and may weigh at most 4294967295 units. If osd.0 moves within the
+/// root, its old weight, 65536 units, doesn't count.
 fn assert_what_fits(rt: &impl Abort, hierarchy: &Hierarchy<Global>) {
     let (h2, osd_0) = (bucket(rt, 3), device(rt, 0));
     assert_eq!(rt;
@@ -210,8 +211,9 @@ fn assert_what_changes(rt: &impl Abort, hierarchy: &mut Hierarchy<Global>) {
     );
 }
 
-/// The root reaches its greatest weight, 4294967295 units. First the two devices of h1 get the
-/// greatest weights that the 32768 units of h2 permit, and then osd.2 gets its greatest weight.
+/// The root reaches its greatest weight, 4294967295 units. The bucket h2 weighs 32768 units. First,
+/// both devices of h1 get the greatest equal weight that still fits. Then osd.2 gets the greatest
+/// weight that still fits.
 fn assert_grows_as_far_as_it_fits(rt: &impl Abort, hierarchy: &mut Hierarchy<Global>) {
     let (h1, osd_2) = (bucket(rt, 2), device(rt, 2));
     assert_eq!(rt;
@@ -229,8 +231,9 @@ fn assert_grows_as_far_as_it_fits(rt: &impl Abort, hierarchy: &mut Hierarchy<Glo
     assert_sums(rt, hierarchy, 4, 3, 4294967295);
 }
 
-/// After the exchange, the weight of the root would be the sum of the 32768 units of h2 and the
-/// units of `other`. This sum may be at most 4294967295.
+/// After the exchange of h1 and `other`, the root `default` would have h2 and `other`. So `default`
+/// would weigh the 32768 units of h2 and the units of `other` together. This sum may be at most
+/// 4294967295 units.
 fn assert_what_can_be_exchanged(
     rt: &(impl Abort + AllocGlobal),
     hierarchy: &mut Hierarchy<Global>,
@@ -361,8 +364,8 @@ fn gets_ssd(
     had_no_class(hierarchy, device(rt, number), class)
 }
 
-/// osd.0 and osd.2 have the class. So the class weighs 98304 units below the root, and 32768 units
-/// below h2, which has only osd.2.
+/// osd.0 and osd.2 have the class `ssd`. So the devices of this class weigh 98304 units below the
+/// root, and 32768 units below h2, which holds only osd.2.
 fn assert_classes(rt: &impl Abort, hierarchy: &Hierarchy<Global>) {
     assert_eq!(rt; hierarchy.class(device_item(rt, 0)), Some("ssd"));
     assert_eq!(rt; hierarchy.class(device_item(rt, 1)), None);

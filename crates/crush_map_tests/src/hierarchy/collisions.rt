@@ -1,8 +1,8 @@
 //! Names that collide under the plain hash (SipHash-1-3 with keys of zeros, folded to 32 bits).
-//! Each name has six letters and digits, and its hash has the same lowest 16 bits and the same
-//! highest 8 bits as the hash of `aaaaaa`. The list has the first such names in the order in which
-//! letters come before digits. The lowest bits of a hash choose a name's place in the hash table,
-//! and the highest bits are stored there as the name's mark.
+//! Each name has six characters, which are letters or digits. The lowest 16 bits and the highest 8
+//! bits of its hash are the same as in the hash of `aaaaaa`. The list has the first such names, if
+//! names are sorted so that letters come before digits. The lowest bits of a hash determine a
+//! name's place in the hash table, which also stores the highest bits of the hash.
 
 use super::names::{add, device};
 use crush_index::{Hashing, Index};

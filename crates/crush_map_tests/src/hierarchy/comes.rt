@@ -1,4 +1,5 @@
-//! Attaches new items. Before an item is attached, a test says whether this is allowed.
+//! Attaches new items to a hierarchy. Before a function attaches an item, it tests whether the
+//! contract of `Hierarchy::add` allows this. If not, or if memory runs out, it returns `false`.
 
 ghost use Rattle.std.specs.Prelude.{◌≡◌, ◌++◌, ◌∷◌, [], true, Some, None, IfSome, IsTrue};
 ghost use Rattle.crush_units.specs.Name.{IsName};

@@ -1,5 +1,5 @@
-//! Short functions with which tests create items and ids. A bucket is given by the distance of its
-//! id below 0, so 2 stands for -2.
+//! Short functions with which tests create items and ids. The argument for a bucket is the distance
+//! of its id below 0: the argument 2 means the id -2.
 
 use crush_tree::{Header, Node, Place};
 use crush_units::{Alg, BucketId, DeviceId, ItemId, Name, TypeId, Weight};

@@ -1,5 +1,5 @@
-//! Tests that the id of a name is found if names are hashed with keys and if they are hashed
-//! without keys.
+//! Tests that an index finds the id of a name, both if it hashes names with random keys and if it
+//! hashes them without keys.
 
 use super::index::exchange_hosts;
 use crush_index::{Hashing, Index};

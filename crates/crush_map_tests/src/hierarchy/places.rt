@@ -1,5 +1,5 @@
-//! Tests the place that the index has for each item, and the hint for the item's position among the
-//! items of its bucket.
+//! Tests the position that the index stores for each item: the item's place, and a hint, which says
+//! at which index the item is among the items of this place.
 
 use super::items::{bucket, bucket_item, device_item, empty, inside, leaf};
 use crush_index::{Hashing, Index};
@@ -67,7 +67,9 @@ fn assert_found_from_every_slot(
 fn a_slot_is_never_trusted(rt: HostRuntime) {
     let mut index = Index::new(rt.alloc(), Hashing::plain());
     add_four(&rt, &mut index);
-    // A bucket's slot is its own id, without the sign, until the bucket is exchanged.
+    // The slot of a bucket is the bucket's id without the sign, until the bucket is exchanged with
+    // another. The last argument is the slot of the bucket that holds the item. It is 0 for the
+    // bucket -3, which the index doesn't have.
     assert_found_from_every_slot(&rt, &index, device_item(&rt, 2), below(&rt, 2, 1), 2);
     assert_found_from_every_slot(&rt, &index, bucket_item(&rt, 2), below(&rt, 1, 0), 1);
     assert_found_from_every_slot(&rt, &index, bucket_item(&rt, 3), None, 0);

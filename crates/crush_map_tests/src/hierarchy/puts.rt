@@ -1,4 +1,5 @@
-//! Changes a hierarchy. Before each change, a test says whether the change is allowed.
+//! Changes a hierarchy. Before a function changes the hierarchy, it tests whether the contract of
+//! the hierarchy's method allows this. If not, the function doesn't make the change.
 
 ghost use Rattle.std.specs.Prelude.{◌≡◌, ◌<◌, true, Some, IfSome, IsTrue};
 ghost use Rattle.crush_units.specs.declared.id.ItemId.TheVariants.{Bucket as BucketItem};
@@ -136,7 +137,8 @@ pub(super) fn exchange(hierarchy: &mut Hierarchy<Global>, first: &[u8], second: 
 }
 
 /// Makes room for one more item in a bucket. Returns the capacity that the bucket had before it
-/// grew, or `None` if it had room.
+/// grew. Returns `None` if the bucket already had room, if there is no such bucket, or if memory
+/// runs out.
 pub(super) fn grow_buffer(hierarchy: &mut Hierarchy<Global>, bucket: BucketId) -> Option<usize> {
     if !has_item(hierarchy, &ItemId::Bucket(bucket)) {
         return None;
@@ -152,8 +154,9 @@ pub(super) fn grow_buffer(hierarchy: &mut Hierarchy<Global>, bucket: BucketId) -
     }
 }
 
-/// Makes room for one more item in a bucket, and then undoes this. Returns the capacity that the
-/// bucket had before it was undone, or `None` if the bucket had room already.
+/// Makes room for one more item in a bucket, and then undoes this. Returns the larger capacity,
+/// which the bucket had in between. Returns `None` if the bucket already had room, if there is no
+/// such bucket, or if memory runs out.
 pub(super) fn grow_and_back(hierarchy: &mut Hierarchy<Global>, bucket: BucketId) -> Option<usize> {
     if !has_item(hierarchy, &ItemId::Bucket(bucket)) {
         return None;

@@ -1,4 +1,4 @@
-//! Short forms in which tests write an edit, and state facts about a map.
+//! Short forms in which tests write edits, and facts about a map.
 
 use crush_map::{BatchFault, Counts, CrushMap, Done, Dones, Edit, EditFault, Location, Placing};
 use crush_tree::Node;
@@ -10,7 +10,7 @@ use std::process::Abort;
 /// The pairs of a location: each pair has the name of a type and the name of a bucket.
 pub(super) type Pairs = &'static [(&'static str, &'static str)];
 
-/// An edit. Weights are in units. The device N has the name osd.N.
+/// An edit. Weights are in units of 1/65536. The device with the number N has the name `osd.N`.
 #[derive(Clone, Copy)]
 pub(super) enum Asked {
     Add(i32, u32, Pairs),
@@ -27,10 +27,10 @@ pub(super) enum Asked {
     RemoveClass(&'static str),
 }
 
-/// A fact about a map. Weights are in units.
+/// A fact about a map. Weights are in units of 1/65536.
 #[derive(Clone, Copy)]
 pub(super) enum Fact {
-    /// The bucket has these items, in order, and this weight.
+    /// The bucket has these items, in this order, and this weight.
     Holds(&'static str, &'static [&'static str], u32),
     HasId(&'static str, i32),
     IsRoot(&'static str),
@@ -38,7 +38,7 @@ pub(super) enum Fact {
     Weighs(&'static str, u32),
     HasClass(&'static str, &'static str),
     Total(u64),
-    /// The numbers of devices and of buckets.
+    /// The number of devices, and the number of buckets.
     Counts(u32, u32),
 }
 

@@ -99,8 +99,8 @@ const OPENED: &[Statement] = &[
     Statement::ClassId(-5, "ssd"),
 ];
 
-/// The host isn't an item of the map before its closing brace, but its name and its ids are already
-/// used.
+/// The host h9 isn't an item of the map before its closing brace, but its name, its id and its
+/// class id are already used.
 fn assert_knows_the_open_host(rt: &impl Abort, builder: &MapBuilder<Global>) {
     assert!(rt; !builder.is_idle());
     assert!(rt; builder.is_numbered());
@@ -135,8 +135,8 @@ fn what_a_builder_is_asked(rt: HostRuntime) {
     drop(builder);
 }
 
-/// Adds a device with `device_unchecked`, if everything is true that this method requires. Returns
-/// whether the device was added.
+/// Adds a device with `device_unchecked`, if the builder's tests say that everything is true that
+/// this method requires. Returns whether the device was added.
 fn adds_unchecked(builder: &mut MapBuilder<Global>, id: DeviceId, name: &[u8]) -> bool {
     if !builder.is_idle() {
         return false;

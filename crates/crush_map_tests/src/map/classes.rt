@@ -1,4 +1,4 @@
-//! Tests the classes of devices, and what the devices of a class weigh.
+//! Tests the classes of devices, and the weights of classes below an item.
 
 use crate::map::asking::{Asked, assert_class, edit, edits, make_batch};
 use crate::map::statements::{Statement, finish, make_all};
@@ -8,7 +8,8 @@ use crush_units::Weight;
 use std::alloc::Global;
 use std::process::Abort;
 
-/// An item, a class, and the units that the item's devices of that class weigh.
+/// An item, a class, and the weight of this class at the item, in units of 1/65536. The weight is
+/// `None` if no item has the name.
 type Row = (&'static str, &'static str, Option<u32>);
 
 /// osd.0 and osd.2 have the class ssd.

@@ -6,7 +6,7 @@ use crush_map::{CrushMap, EditFault, Refusal};
 use std::alloc::Global;
 use std::process::Abort;
 
-/// An edit, its refusal, and the name at fault.
+/// An edit, its refusal, and the name that the refusal is about.
 type Row = (Asked, Refusal, &'static str);
 
 const ROWS: &[Row] = &[

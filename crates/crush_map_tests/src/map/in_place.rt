@@ -1,6 +1,7 @@
 //! Tests batches whose edits add, move, remove and rename items. If an edit of a batch is refused,
-//! then the items are in the same order as before the batch, and they use the same amount of
-//! memory. If no edit is refused, then the batch has the same result as its edits one by one.
+//! the items must be in the same order as before the batch, and the map must use the same amount of
+//! memory. If no edit is refused, the batch must have the same result as the same edits that are
+//! applied one by one.
 
 use crate::map::asking::{Asked, Told, answer, edit, edits};
 use crate::map::same::has_the_same;
@@ -10,9 +11,9 @@ use linked_list_allocator::LocalHeap;
 use std::alloc::Global;
 use std::process::Abort;
 
-/// Edits that put items into full buckets, into new buckets and among the roots. Some edits put a
-/// device where it already is, with another weight or with the same weight. Some edits move a
-/// bucket, or move a bucket into which other items have moved, or move a bucket back.
+/// Edits that put items into full buckets, into new buckets and among the roots. One edit changes
+/// nothing, because its device is already at the location. Other edits move a bucket, move a bucket
+/// into which other items have moved before, or move a bucket back.
 const EDITS: &[Asked] = &[
     Asked::Move("osd.0", &[("host", "h2")]),
     Asked::Add(
@@ -59,8 +60,8 @@ fn assert_the_example_map(rt: &impl Abort, alloc: Global, map: &CrushMap<&LocalH
     drop(whole);
 }
 
-/// The batch must be refused at the edit with this position, and the heap must have the same amount
-/// of memory in use afterwards as before.
+/// Applies the batch, which must be refused at the edit with the index `place`. Afterwards, the
+/// same amount of the heap's memory must be in use as before.
 fn assert_refused(
     rt: &impl Abort,
     heap: &LocalHeap,

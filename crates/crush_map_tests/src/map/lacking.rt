@@ -1,6 +1,6 @@
 //! Tests edits and batches for which memory runs out, at each point at which they need more memory.
-//! The map must then be unchanged, and the same call must have its usual result when there is
-//! enough memory again. A call that is refused must also leave the map unchanged.
+//! If memory runs out, the map must be unchanged. When there is enough memory again, the same call
+//! must have its usual result. A call that is refused must also leave the map unchanged.
 
 use crate::map::asking::{
     Asked, CHANGED, Fact, Told, answer, are_true_of, edit, edits, make_batch,
@@ -30,19 +30,19 @@ fn ballast<'h>(rt: &impl Abort, heap: &'h LocalHeap, size: usize) -> Vec<u8, &'h
     Vec::with_capacity(heap, size).expect(rt, "a piece")
 }
 
-/// A call with its result and facts about the map after the call. The call is one edit, or a batch
-/// of several edits.
+/// A call, its result, and facts about the map after the call. The call is one edit, or a batch of
+/// several edits.
 struct Call {
     asked: &'static [Asked],
     told: Told,
     then: &'static [Fact],
-    /// The least number of heaps in which memory must run out.
+    /// Memory must run out in at least this many heaps, before a heap has enough memory.
     least: usize,
 }
 
 /// Applies the edits while the largest free piece of the heap has `spare` bytes. For this, the
-/// function allocates the piece that was freed when the map was finished, and the largest piece
-/// except for `spare` bytes.
+/// function first allocates the second-largest free piece, which was freed when the map was
+/// finished. Then it allocates all but `spare` bytes of the largest piece.
 fn answer_with(
     rt: &impl Abort,
     heap: &LocalHeap,
@@ -123,8 +123,8 @@ fn lacks_with(rt: &impl Abort, alloc: Global, spare: usize, asking: &Asking<'_>)
     lacks
 }
 
-/// Makes the call in one heap after another until there is enough memory. Each heap has 64 more
-/// free bytes than the heap before.
+/// Makes the call in one heap after another, until a heap has enough memory. In each heap, the call
+/// may use 64 more bytes than in the previous heap.
 fn lacks_often(rt: &impl Abort, alloc: Global, asking: &Asking<'_>) {
     let place = asking.place;
     for times in 0..256 {
@@ -154,8 +154,9 @@ const ADDED: Told = Told::One(Ok(Done {
     made: 1,
 }));
 
-/// A device that is added in new buckets, a device that moves, a device that gets another weight at
-/// its place, and a host that moves to a new bucket.
+/// The first call adds a device in new buckets. The second call moves a device, and the third call
+/// sets the weight of a device that stays in its bucket. The fourth call moves a host to a new
+/// bucket.
 const PUTS: &[Call] = &[
     Call {
         asked: &[Asked::Add(
@@ -209,7 +210,7 @@ fn memory_lacks_for_what_is_put(rt: HostRuntime) {
     lack_at_each_growth(&rt, rt.alloc(), PUTS);
 }
 
-/// Other edits. The exchange, the new weights and the removal among them need no memory.
+/// Other edits. Those that exchange buckets, set weights or remove an item need no memory.
 const OTHERS: &[Call] = &[
     Call {
         asked: &[Asked::Swap("h1", "h2")],

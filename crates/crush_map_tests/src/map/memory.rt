@@ -19,7 +19,8 @@ struct Item {
     held: usize,
 }
 
-/// The root is in no bucket, so its number `held` is greater than the number of statements.
+/// The root is never in a bucket, so its number `held` is greater than the number of statements,
+/// 25.
 const ITEMS: &[Item] = &[
     Item {
         name: "osd.0",

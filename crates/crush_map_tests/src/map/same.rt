@@ -1,4 +1,5 @@
-//! Tests whether two maps have the same items. A search of each forest finds the items.
+//! Compares the items of two maps. The items are found by a search of each forest, and not by the
+//! index of a map.
 
 use crate::map::looked_up::NAMES;
 use crush_map::CrushMap;
@@ -67,8 +68,8 @@ fn is_same_name<A: Allocator, B: Allocator>(
     }
 }
 
-/// Whether the maps have the same items. The name of every item of `other` must be in the list
-/// `NAMES`.
+/// Whether the maps have the same items, in the same order. The list [`NAMES`] must have the name
+/// of every item of `other`.
 pub(super) fn has_the_same<A: Allocator, B: Allocator>(
     map: &CrushMap<A>,
     other: &CrushMap<B>,

@@ -1,5 +1,5 @@
-//! Passes the statements of a map's text to a builder. Before each call, the conditions of the
-//! builder's method are tested.
+//! Passes the statements of a map's text to a builder. Before each call, the module asserts what
+//! the builder's method requires.
 
 use crush_builder::{BuildFault, MapBuilder};
 use crush_map::{CrushMap, is_reserved};

@@ -1,5 +1,5 @@
-//! Builds the example map, which is the plain example map with a tunable and a rule, in the global
-//! allocator and in heaps.
+//! Builds the example map, in the global allocator and in heaps. The map has three devices in two
+//! hosts below one root, and also a tunable and a rule.
 
 ghost use Rattle.std.specs.Prelude.{All};
 ghost use Rattle.crush_builder.specs.Rules.{IsStepForm};
@@ -102,8 +102,8 @@ pub(super) const BEFORE_RULE: &[Statement] = &[
     Statement::End,
 ];
 
-/// Makes all statements of the example map. The rule is in the global allocator, which has enough
-/// memory.
+/// Passes all statements of the example map to the builder. The rule is always in the global
+/// allocator, which has enough memory.
 fn make_whole<A: Allocator + Clone>(
     rt: &impl Abort,
     alloc: Global,

@@ -1,6 +1,6 @@
-//! Tests calls on the example map, with results that were worked out by hand. After each call, a
-//! look-up of every name must find what the expected rows have, and what a search of the forest
-//! finds.
+//! Tests calls on the example map, with results that were worked out by hand. After each call,
+//! every name is looked up. The result must be what the expected rows say, and also what a search
+//! of the forest finds.
 
 use crate::map::asking::{Asked, CHANGED, Told, answer, edits};
 use crate::map::looked_up::{NAMES, assert_all_looked_up};
@@ -10,7 +10,7 @@ use crush_units::{BucketId, ItemId, Weight};
 use std::alloc::Global;
 use std::process::Abort;
 
-/// A name, the number of its id, and its weight in units.
+/// The name of an item, the number of its id, and its weight in units of 1/65536.
 type Item = (&'static str, i32, u32);
 
 #[derive(Clone, Copy)]
@@ -19,8 +19,8 @@ enum Kids {
     Of(&'static str, &'static [Item]),
 }
 
-/// A call, its result, and the rows of the map after the call. The call is made on the map after
-/// the previous line.
+/// A call, its result, and the rows of the map after the call. Each call is made on the map that
+/// the calls of the previous lines have produced.
 struct Line {
     asked: &'static [Asked],
     told: Told,
@@ -162,7 +162,8 @@ const IN_A_NEW_RACK: &[Line] = &[Line {
     ],
 }];
 
-/// The host of the location exists, so the buckets after the host in the location are not created.
+/// The first pair of the location names a host that exists. So the rack and the root, which the
+/// location names after the host, are not created.
 const IN_THE_FIRST_THERE: &[Line] = &[Line {
     asked: &[Asked::Add(
         3,
@@ -185,8 +186,8 @@ const IN_THE_FIRST_THERE: &[Line] = &[Line {
     ],
 }];
 
-/// Edits of items that exist: a device that is already at the location, two buckets that can't be
-/// moved below themselves, and a device that moves.
+/// Edits of items that exist: a device that is already at the location, a bucket that can't be
+/// moved into a bucket below it, a bucket that can't be moved into itself, and a device that moves.
 const PLACED: &[Line] = &[
     Line {
         asked: &[Asked::CreateOrMove(0, 327680, &[("host", "h1"), ("root", "other")])],
@@ -233,7 +234,7 @@ const EXCHANGED: &[Line] = &[Line {
     ],
 }];
 
-/// All items are removed except for the root, which can't be removed because a rule takes it.
+/// Removes all items except for the root, which can't be removed because a rule takes the root.
 const REMOVED: &[Line] = &[
     Line {
         asked: &[Asked::Remove("default")],
@@ -294,7 +295,8 @@ fn what_is_exchanged_or_removed_is_looked_up(rt: HostRuntime) {
     make_all(&rt, rt.alloc(), REMOVED);
 }
 
-/// A bucket may weigh at most 4294967295 units.
+/// The bucket rx weighs 4294967294 units. A bucket may weigh at most 4294967295 units, so only one
+/// more unit fits into rx.
 const HEAVY: &[Kids] = &[
     Kids::Roots(&[("default", -1, 163840), ("rx", -5, 4294967294)]),
     Kids::Of("rx", &[("hx", -4, 4294967294)]),
@@ -395,8 +397,8 @@ fn what_batches_do_is_looked_up(rt: HostRuntime) {
     make_all(&rt, rt.alloc(), BATCHES);
 }
 
-/// Two batches that are refused at their last edit, a batch that is refused earlier, and a batch
-/// that succeeds, whose last edit is an exchange.
+/// The first two batches are refused at their last edit. The third batch is refused at its second
+/// edit of three. The fourth batch succeeds, and its last edit is an exchange of two buckets.
 const BATCHES_OF_WEIGHTS: &[Line] = &[
     Line {
         asked: &[
@@ -448,9 +450,10 @@ const BATCHES_OF_WEIGHTS: &[Line] = &[
     },
 ];
 
-/// Three batches. The first is refused after it has set the weights below three buckets. One of
-/// these buckets is below another of them, and the weights of one are set after an exchange. The
-/// second batch is refused earlier, and the third succeeds.
+/// Three batches. The first batch sets the weights below `default`, then the weights below h1,
+/// which is below `default`, and, after an exchange of h1 and h2, again the weights below h1. Then
+/// this batch is refused at its last edit. The second batch is refused at its second edit, because
+/// osd.2 isn't a bucket. The third batch succeeds.
 const BATCHES_BELOW: &[Line] = &[
     Line {
         asked: &[
@@ -502,8 +505,9 @@ fn what_batches_of_weights_do_is_looked_up(rt: HostRuntime) {
     make_all(&rt, rt.alloc(), BATCHES_OF_WEIGHTS);
 }
 
-/// Batches that remove devices and empty buckets, and add some of them again, with the same or with
-/// other ids and names. Two batches are refused at their last edit, and one succeeds.
+/// Batches that remove devices and empty buckets. The second and the third batch also add removed
+/// items again, some of them with another id. The first two batches are refused at their last edit,
+/// and the third batch succeeds.
 const BATCHES_OF_REMOVALS: &[Line] = &[
     Line {
         asked: &[
@@ -553,8 +557,9 @@ fn what_batches_of_removals_do_is_looked_up(rt: HostRuntime) {
     make_all(&rt, rt.alloc(), BATCHES_OF_REMOVALS);
 }
 
-/// Batches in which a name is changed and changed back, a bucket takes the old name of another
-/// bucket, and two buckets exchange their names.
+/// In the first batch, a name is changed and changed back, and a new bucket gets the old name of a
+/// bucket. In the second batch, two buckets exchange their names. In the third batch, a bucket gets
+/// the old name of another bucket.
 const BATCHES_OF_NAMES: &[Line] = &[
     Line {
         asked: &[

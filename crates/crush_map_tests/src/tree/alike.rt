@@ -1,4 +1,5 @@
-//! Tests whether two forests agree in the items of the example map.
+//! Compares two forests: whether they have the same items with the ids that the example map uses,
+//! in the same order.
 
 use super::items::{bucket, bucket_item, device_item};
 use crush_tree::{Forest, Node, View};

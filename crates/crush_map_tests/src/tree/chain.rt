@@ -1,5 +1,5 @@
-//! Tests forests that are chains: each bucket is in the bucket before it. The chain on the main
-//! thread has as many buckets as a map can have, and the chain on another thread has fewer.
+//! Tests forests that are chains: each bucket is in the bucket before it. The forest on the main
+//! thread has as many buckets as a map can have, and the forest on another thread has fewer.
 
 use super::alike::copy_of;
 use super::items::{Item, bucket, bucket_item, node, node_with};
@@ -32,7 +32,7 @@ fn links(rt: &(impl Abort + AllocGlobal), depth: u32) -> Node<Global> {
     item
 }
 
-/// Returns a forest with a chain of buckets. The chain was put together before it was added to the
+/// Returns a forest with a chain of buckets. The chain is put together before it is added to the
 /// forest.
 fn chain(rt: &(impl Abort + AllocGlobal), depth: u32) -> Forest<Global> {
     let mut forest = Forest::new(rt.alloc(), rt.alloc());
@@ -70,8 +70,9 @@ fn on_the_main_thread(rt: HostRuntime) {
     assert!(rt; is_sound(&rt, MOST));
 }
 
-/// Builds and drops a chain of `MOST` buckets on the thread, which tests that the thread's stack is
-/// large enough. Then searches a chain of fewer buckets.
+/// First builds and drops a chain of `MOST` buckets on another thread, without adding the chain to
+/// a forest. So the test shows that the stack of this thread is large enough. Then searches a
+/// forest that has a chain of `FEW` buckets.
 #[test]
 fn on_another_thread(rt: HostRuntime) {
     let worker = thread::spawn(&rt, move || is_weighed(&rt, MOST) && is_sound(&rt, FEW)).expect(

@@ -1,5 +1,5 @@
-//! Builds the forest of the example map, in the global allocator and in small heaps, and calls each
-//! method of a forest once.
+//! Builds the forest of the example map, in the global allocator and in small heaps, and calls the
+//! methods of a forest that take no `Guide`.
 
 use super::alike::{copy_of, is_same};
 use super::asks::{fits, fits_moved, has_item};
@@ -35,7 +35,7 @@ fn put_all<A: Allocator + Copy>(
     put_h2(rt, alloc, forest)
 }
 
-/// Adds h2, which already has osd.2 when it is added.
+/// Puts osd.2 into h2, and then adds h2 to the forest.
 fn put_h2<A: Allocator + Copy>(
     rt: &impl Abort,
     alloc: A,
@@ -50,8 +50,8 @@ fn put_h2<A: Allocator + Copy>(
     put(forest, inside(rt, 1), h2)
 }
 
-/// Returns the forest with osd.0 and osd.1 in h1, with the weight 1.0 each, and osd.2 in h2, with
-/// the weight 0.5.
+/// Returns the forest in which h1 holds osd.0 and osd.1, with the weight 1.0 each, and h2 holds
+/// osd.2, with the weight 0.5. Both hosts are in the root.
 fn example_in<A: Allocator + Copy>(rt: &impl Abort, alloc: A) -> Result<Forest<A>, Refused> {
     let mut forest = Forest::new(alloc, alloc);
     match put_all(rt, alloc, &mut forest) {
@@ -397,8 +397,8 @@ fn memory_and_back(rt: HostRuntime) {
     drop(forest);
 }
 
-/// The root weighs 163840 units, and may weigh at most 4294967295. The weight of a device that
-/// moves within the root is counted once.
+/// The root weighs 163840 units, and may weigh at most 4294967295 units. If a device moves within
+/// the root, its old weight doesn't count.
 fn assert_what_fits(rt: &impl Abort, forest: &Forest<Global>) {
     let (h2, osd_0) = (bucket(rt, 3), device(rt, 0));
     let too_much = Weight::from_units(4294803456);

@@ -1,5 +1,5 @@
-//! Short functions with which tests create items and ids. A bucket is given by the distance of its
-//! id below 0, and a device is given by its number.
+//! Short functions with which tests create items and ids. The argument for a bucket is the distance
+//! of its id below 0, and the argument for a device is its number.
 
 use super::puts::Refused;
 use crush_tree::{Header, Node, Place, ShadowId};
@@ -7,8 +7,8 @@ use crush_units::{Alg, BucketId, DeviceId, ItemId, Name, TypeId, Weight};
 use std::alloc::{Allocator, Global};
 use std::process::Abort;
 
-/// An item to create. A bucket is given by its id and its name. A device is given by its id, its
-/// name and its weight in units of 1/65536.
+/// An item to create. A bucket has the distance of its id below 0, and its name. A device has its
+/// id, its name, and its weight in units of 1/65536.
 #[derive(Clone, Copy)]
 pub(super) enum Item<'a> {
     Root(u32, &'a str),

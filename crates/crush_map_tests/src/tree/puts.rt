@@ -1,4 +1,5 @@
-//! Changes a forest. Before each change, a test says whether the change is allowed.
+//! Changes a forest. Before a function changes the forest, it tests whether the contract of the
+//! forest's method allows this. If not, the function doesn't make the change.
 
 use super::asks::{are_nested, has_item, has_name, is_held};
 use super::items::{Item, made};
@@ -163,7 +164,7 @@ pub(super) fn exchange<A: Allocator>(
 }
 
 /// Makes room for one more item in a bucket, and then undoes this. Returns whether the bucket had
-/// the capacity `had` before, and the capacity `has` before this was undone.
+/// the capacity `had` at first, and the capacity `has` in between.
 pub(super) fn grows_and_back<A: Allocator + Clone>(
     forest: &mut Forest<A>,
     bucket: BucketId,
