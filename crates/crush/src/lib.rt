@@ -17,14 +17,14 @@
 //! - **Two maps**: [`Comparison`] pairs the items of two maps, [`write_since`] writes what has
 //! changed, and [`find_plan`] finds edits that lead from one map toward the other. [`rule_changes`]
 //! and [`class_changes`] return what has changed in rules and device classes. The caller of
-//! [`find_plan`] passes an [`Identity`], which says how buckets are matched. For a [`Comparison`],
-//! the type `compare::Identity` says this about items.
+//! [`find_plan`] passes an [`Identity`], which says how the buckets of the two maps are matched. A
+//! [`Comparison`] has another type, `compare::Identity`, which says how items are matched.
 //! - **JSON**: [`write_map_document`] and three similar functions write JSON documents.
 //! - **Reasons**: [`fault_text`] says why the text of a job is refused. [`explained_text`] says why
 //! calls were refused. If an edit of a batch was refused, [`explained_job`] also says in which line
 //! of the job this edit is.
-//! - **Several scripts**: [`lost_changes`] finds the changes that one script makes if it runs
-//! alone, and that the map after the run of all scripts doesn't have.
+//! - **Several scripts**: [`lost_changes`] finds lost changes. A change is lost if one script makes
+//! it when only this script runs, but the map after the run of all scripts doesn't have it.
 //! - **A whole job**: [`read_job`] reads a map together with the scripts of its operators, and
 //! [`run_at_once`] runs the scripts at the same time, each in a thread of its own. A [`Gate`] is
 //! code of the caller that runs before and after each call. [`NoGate`] is for callers that have no
@@ -35,7 +35,7 @@
 //!
 //! The contract of a type or a function refers to definitions in the crate that defines the type or
 //! the function. So if your own program has contracts, its line in `crates.txt` must also name the
-//! crates that have the definitions in these contracts.
+//! crates whose definitions the contracts of the imported types and functions refer to.
 #![tactic(auto)]
 
 pub mod compare;

@@ -12,9 +12,9 @@ use std::thread;
 /// The largest number of buckets that a map can have.
 const MOST: u32 = 4096;
 
-/// The number of buckets of the forest on another thread. Attaching a node compares the node's
-/// buckets with one another. So a test with `MOST` buckets takes 100 seconds if the test runs
-/// without proofs.
+/// The number of buckets of the forest on another thread. This number is small, because attaching a
+/// node compares the node's buckets with one another. With `MOST` buckets, a test takes 100 seconds
+/// if it runs without proofs.
 const FEW: u32 = 512;
 
 fn link(rt: &(impl Abort + AllocGlobal), distance: u32, item: Node<Global>) -> Node<Global> {

@@ -13,8 +13,8 @@ pub(super) enum Refused {
     NoMemory,
     Malformed,
     Missing,
-    /// The item can't be attached at its place, the name is taken, or the weight isn't allowed for
-    /// a device.
+    /// The item can't be attached at its place, a bucket can't hold it, the name is taken, the
+    /// weight isn't allowed for a device, or one of two buckets to exchange is inside the other.
     Unfit,
     TooHeavy,
 }
