@@ -44,11 +44,11 @@ pub record CanBegin (s : SettingData) (t : List Row) (kind : ℕ) (name : List �
   pub free : is_named t name ≡ false
   pub few : bucket_count t < MOST_BUCKETS
 
--- the ids that a bucket uses: its own, and those of its class ids
+-- the ids that a bucket uses: its own id, and its class ids
 abbrev pub own_ids : ℕ → List ShadowData → List ℕ
 own_ids b class_ids = b ∷ map (λ (c : ShadowData). c.id) class_ids
 
--- a bucket with this id and these class ids can be added to the table: all these ids are in range, distinct, and not used in the table; each class id has a class in the form of a name; no two class ids have the same class; and there are at most as many class ids as the limit
+-- a bucket with this id and these class ids can be added to the table: all these ids are in range, distinct, and not used in the table; each class id has a class in the form of a name; no two class ids have the same class; and there are at most as many class ids as the limit allows
 pub record CanNumber (t : List Row) (b : ℕ) (class_ids : List ShadowData) : Type 0 where
   pub some : 0 < b
   pub most : b ≤ FARTHEST_BUCKET_ID
@@ -122,7 +122,7 @@ has_pending_name (begun kind name) n = bytes_eq name n
 has_pending_name (numbered kind name b class_ids) n = bytes_eq name n
 has_pending_name _ n = false
 
--- whether the incomplete bucket, if it isn't in the table yet, has this id or a class id with this id
+-- whether the incomplete bucket, if it isn't in the table yet, has this id, or one of its class ids is this id
 abbrev pub has_pending_id : Pending → ℕ → Bool
 has_pending_id (numbered kind name b class_ids) k = member k (own_ids b class_ids)
 has_pending_id _ k = false

@@ -43,27 +43,27 @@ first_fault [] = None
 first_fault (p ∷ ps) = if p.1 then Some p.0 else first_fault ps
 
 -- THE FAULTS that each method can return, with their tests, in the order of their numbers
--- the fault of adding a type: a type has the number, a type has the name, or there are as many types as the limit
+-- the fault of adding a type: a type has the number, a type has the name, or there are already as many types as the limit allows
 abbrev pub kind_fault : Draft → ℕ → List ℕ → Option BuildFault
 kind_fault d k n = first_fault ((DuplicateId, has_kind_number d.setting k) ∷ ((DuplicateName, has_kind_name d.setting n) ∷ ((TooMany, is_full_of_kinds d) ∷ [])))
 
--- the fault of adding a tunable: a tunable has the name, or there are as many tunables as the limit
+-- the fault of adding a tunable: a tunable has the name, or there are already as many tunables as the limit allows
 abbrev pub tunable_fault : Draft → List ℕ → Option BuildFault
 tunable_fault d n = first_fault ((DuplicateName, has_tunable d.setting n) ∷ ((TooMany, is_full_of_tunables d) ∷ []))
 
--- the fault of adding a device: a device has the id, an item has the name, or there are as many devices as the limit
+-- the fault of adding a device: a device has the id, an item has the name, or there are already as many devices as the limit allows
 abbrev pub device_fault : Draft → ℕ → List ℕ → Option BuildFault
 device_fault d i n = first_fault ((DuplicateId, is_there d.table (Device i)) ∷ ((DuplicateName, has_name d n) ∷ ((TooMany, is_full_of_devices d) ∷ [])))
 
--- the fault of beginning a bucket: an item has the name, k doesn't name a type that buckets can have, or there are as many buckets as the limit
+-- the fault of beginning a bucket: an item has the name, k doesn't name a type that buckets can have, or there are already as many buckets as the limit allows
 abbrev pub begin_fault : Draft → List ℕ → List ℕ → Option BuildFault
 begin_fault d k n = first_fault ((DuplicateName, has_name d n) ∷ ((UnknownType, not (names_bucket_kind d.setting k)) ∷ ((TooMany, is_full_of_buckets d) ∷ [])))
 
--- the fault of setting a bucket's id: it is already the id or a class id of a bucket
+-- the fault of setting a bucket's id: the id is already the id or a class id of a bucket
 abbrev pub id_fault : Draft → ℕ → Option BuildFault
 id_fault d b = first_fault ((DuplicateId, has_bucket_id d b) ∷ [])
 
--- the fault of adding a class id: it is already the id or a class id of a bucket, the bucket has a class id for the class, or it has as many class ids as the limit
+-- the fault of adding a class id: the id is already the id or a class id of a bucket, the incomplete bucket already has a class id for the class, or this bucket already has as many class ids as the limit allows
 abbrev pub class_id_fault : Draft → ℕ → List ℕ → Option BuildFault
 class_id_fault d b c = first_fault ((DuplicateId, has_bucket_id d b) ∷ ((DuplicateName, has_class d c) ∷ ((TooMany, is_full_of_class_ids d) ∷ [])))
 

@@ -69,7 +69,7 @@ has_rule_name s n = list_any (λ (x : RuleData). bytes_eq x.name n) s.rules
 abbrev pub has_rule_id : SettingData → ℕ → Bool
 has_rule_id s k = list_any (λ (x : RuleData). x.id == k) s.rules
 
--- whether there are as many rules as the limit
+-- whether there are already as many rules as the limit allows
 abbrev pub is_full_of_rules : Draft → Bool
 is_full_of_rules d = nat_le MOST_RULES (length d.setting.rules)
 

@@ -12,7 +12,7 @@ pub record ItemData : Type 0 where
   pub view : ViewData
   pub holder : Option (List ℕ)
 
--- what a table says about an item, with the name of the item's bucket added
+-- what a table says about an item, together with the name of the bucket that holds the item
 abbrev pub with_holder : List Row → ViewData → ItemData
 with_holder t v = record { view = v; holder = option_and_then (λ p. name_of t (Bucket p)) v.parent }
 

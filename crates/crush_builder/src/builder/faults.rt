@@ -85,8 +85,8 @@ impl<A: Allocator> MapBuilder<A> {
         self.hierarchy.kind(*item).is_some() && !open
     }
 
-    /// Whether the weights of all buckets and of the whole map stay in range if the bucket gets the
-    /// item. If the item is a device, `weight` is the weight that it gets.
+    /// Whether the weights of all buckets and of the whole map stay within their limits if the
+    /// bucket gets the item. If the item is a device, `weight` is the weight that it gets.
     pub(super) fn fits_item(&self, bucket: BucketId, id: ItemId, weight: Weight) -> bool
         requires fills { self.now.pending ≡ filling bucket }
         requires closed { (d : Draft) → IsDraft self.now d → is_closed d id ≡ true }
