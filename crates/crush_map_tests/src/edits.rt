@@ -1,4 +1,5 @@
-//! Tests locations up to their greatest length, copies of each kind of edit, `==`, and settings.
+//! Tests locations up to their greatest length, copies of each kind of edit, `==`, the texts of
+//! edits, refusals, and settings.
 
 use crush_edits::*;
 use crush_units::limits::MOST_PAIRS;

@@ -1,4 +1,4 @@
-//! Tests the text and the number of each fault.
+//! Tests the texts of four faults, and the number of one fault.
 
 use crush_builder::BuildFault;
 use crush_map::{EditFault, Refusal};
