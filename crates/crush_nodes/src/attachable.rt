@@ -11,22 +11,23 @@ use crate::node::{Bucket, Node};
 use crate::place::Place;
 use std::alloc::Allocator;
 
-/// Whether the item and all that is below it have at most `most` devices.
+/// Whether there are at most `most` devices among the item and everything below it.
 pub fn has_few_devices<A: Allocator>(node: &Node<A>, most: u32) -> bool
     ensures { result ≡ nat_le (devices_in (items_of (node.now ∷ []))) most }
 {
     devices_left(node, most).is_some()
 }
 
-/// Whether the item and all that is below it have at most `most` buckets.
+/// Whether there are at most `most` buckets among the item and everything below it.
 pub fn has_few_buckets<A: Allocator>(node: &Node<A>, most: u32) -> bool
     ensures { result ≡ nat_le (size_of (items_of (node.now ∷ []))) most }
 {
     buckets_left(node, most).is_some()
 }
 
-/// Whether the place accepts the item. The roots accept every bucket, the unplaced devices accept
-/// every device of weight 0, and a bucket accepts every item.
+/// Whether a place of this kind accepts the item. The roots accept every bucket, the unplaced
+/// devices accept every device of weight 0, and a bucket accepts every item. Doesn't test whether
+/// the place exists.
 pub fn takes<A: Allocator>(place: &Place, node: &Node<A>) -> bool
     ensures { result ≡ takes place.now (items_of (node.now ∷ [])) }
 {
@@ -43,8 +44,8 @@ pub fn takes<A: Allocator>(place: &Place, node: &Node<A>) -> bool
     }
 }
 
-/// Returns `most` minus the number of devices in the item, at any depth, or `None` if there are
-/// more than `most`.
+/// Returns `most` minus the number of devices among the item and everything below it, or `None` if
+/// there are more than `most` devices.
 fn devices_left<A: Allocator>(node: &Node<A>, most: u32) -> Option<u32>
     ensures some { IfSome result (λ left. left + devices_in (items_of (node.now ∷ [])) ≡ most) }
     ensures none { IfNone result (most < devices_in (items_of (node.now ∷ []))) }
@@ -66,8 +67,8 @@ fn devices_left<A: Allocator>(node: &Node<A>, most: u32) -> Option<u32>
     }
 }
 
-/// Returns `most` minus the number of buckets in the item, at any depth, or `None` if there are
-/// more than `most`.
+/// Returns `most` minus the number of buckets among the item and everything below it, or `None` if
+/// there are more than `most` buckets.
 fn buckets_left<A: Allocator>(node: &Node<A>, most: u32) -> Option<u32>
     ensures some { IfSome result (λ left. left + size_of (items_of (node.now ∷ [])) ≡ most) }
     ensures none { IfNone result (most < size_of (items_of (node.now ∷ []))) }

@@ -12,7 +12,8 @@ use crush_units::{Name, Weight};
 use std::alloc::Allocator;
 
 /// Returns the sum of the weights of the devices that have the class, among the item and all items
-/// below it. The cost is linear in the number of these items.
+/// below it. This sum must be at most 4294967295 units. The cost is linear in the number of these
+/// items.
 pub fn class_weight_in<A: Allocator>(node: &Node<A>, class: &[u8]) -> Weight
     requires { class_sum_in class.now (items_of (node.now ∷ [])) ≤ HEAVIEST_BUCKET }
     ensures { result ≡ class_sum_in class.now (items_of (node.now ∷ [])) }
@@ -31,7 +32,7 @@ pub fn class_weight_in<A: Allocator>(node: &Node<A>, class: &[u8]) -> Weight
     }
 }
 
-/// Returns the device's weight if it has the class, otherwise 0.
+/// Returns the device's weight if the device has the class, otherwise 0.
 fn leaf_class_weight<A: Allocator>(leaf: &Leaf<A>, class: &[u8]) -> Weight
     ensures { result ≡ leaf_class_weight class.now (leaf_data leaf.now) }
 {
@@ -47,8 +48,8 @@ fn leaf_class_weight<A: Allocator>(leaf: &Leaf<A>, class: &[u8]) -> Weight
     }
 }
 
-/// Proves that a class, if there is one, has the form of a name, which is the invariant of its
-/// type. Does nothing at run time.
+/// Gives a proof one fact about a class, if there is one: it has the form of a name. This is an
+/// invariant of the type `Name`. Changes nothing at run time.
 pub fn recall_class<A: Allocator>(class: &Option<Name<A>>)
     ensures { IfSome class.now IsName }
 {

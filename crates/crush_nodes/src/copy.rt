@@ -1,8 +1,8 @@
-//! Copies of items with all that is below them.
+//! Copies of items with everything below them.
 //!
-//! The functions call themselves as deep as buckets nest, and each level needs stack. So the other
-//! work of a level is in functions that are `inline(never)`, which keeps their variables out of the
-//! nested frames.
+//! [`copy_items`] calls itself once for each level of nested buckets, and each of these calls needs
+//! stack. So the other work of a level is in functions that are `inline(never)`, which keeps their
+//! variables out of the nested frames.
 
 ghost use Rattle.std.specs.Prelude.{◌≡◌, ℕ, ◌<◌, ◌+◌, ◌∷◌, [], map, IfOk, OnOk, vec_len, vec_capacity};
 ghost use Rattle.crush_model.specs.Items.{bucket, device, none};
@@ -15,8 +15,9 @@ use crate::node::{Bucket, Header, Leaf, Node, ShadowId};
 use crush_units::Weight;
 use std::alloc::{AllocError, Allocator};
 
-/// Copies items with all that is below them. The copied lists have no memory for further items.
-/// Fails with `AllocError` if memory can't be allocated. The cost is linear in the number of items.
+/// Copies items with everything below them, in the same order. The memory comes from clones of
+/// `alloc`. The copied lists have no memory for further items. Fails with `AllocError` if memory
+/// can't be allocated. The cost is linear in the number of items at all depths.
 pub fn copy_items<A: Allocator + Clone>(
     alloc: &A,
     items: &[Node<A>],
@@ -59,7 +60,7 @@ fn push_leaf<A: Allocator + Clone>(
     Ok(())
 }
 
-/// Appends a copy of a bucket to `copies`, which must have room for it. `below` are the copies of
+/// Appends a copy of a bucket to `copies`, which must have room for it. `below` has the copies of
 /// the bucket's items. Fails if memory can't be allocated.
 #[inline(never)]
 fn push_bucket<A: Allocator + Clone>(

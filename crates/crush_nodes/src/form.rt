@@ -17,7 +17,7 @@ use std::alloc::Allocator;
 
 /// Whether the item and each item below it, at any depth, is well formed. The weight of a device
 /// must be at most 2147483647 units. A bucket must have a type above 0 and at most 16 class ids, of
-/// distinct classes.
+/// distinct classes. The stored weights of buckets aren't tested.
 pub fn is_formed_node<A: Allocator>(node: &Node<A>) -> bool
     ensures tested { result ≡ are_formed (items_of (node.now ∷ [])) }
     ensures typed { OnTrue result (AreTyped (items_of (node.now ∷ []))) }
@@ -94,8 +94,8 @@ fn has_class_of<A: Allocator>(class_ids: &[ShadowId<A>], class_id: &ShadowId<A>)
     has_class(class_ids, class_id.class.as_bytes())
 }
 
-/// Proves that the number of each class id is in range and that its class is a name, as the types'
-/// invariants say. Does nothing at run time.
+/// Gives a proof two facts about each class id: its number is in range, and its class has the form
+/// of a name. Both facts are invariants of the fields' types. Changes nothing at run time.
 fn recall_shadow_ids<A: Allocator>(class_ids: &[ShadowId<A>])
     ensures { All IsShadowId (map shadow_data class_ids.now) }
 {
@@ -104,8 +104,8 @@ fn recall_shadow_ids<A: Allocator>(class_ids: &[ShadowId<A>])
     }
 }
 
-/// Proves that the number of one class id is in range and that its class is a name, as the types'
-/// invariants say. Does nothing at run time.
+/// Gives a proof two facts about a class id: its number is in range, and its class has the form of
+/// a name. Both facts are invariants of the fields' types. Changes nothing at run time.
 fn recall_shadow_id<A: Allocator>(class_id: &ShadowId<A>)
     ensures { IsShadowId (shadow_data class_id.now) }
 {

@@ -29,8 +29,9 @@ impl<A: Allocator> Node<A> {
         }
     }
 
-    /// Appends a child to a bucket and adds the child's weight to the bucket's. The bucket must
-    /// have room, which [`Node::has_room`] tests, and the new weight must be in range.
+    /// Appends a child to a bucket, and adds the child's weight to the bucket's weight. The bucket
+    /// must have room, which [`Node::has_room`] tests. The new weight must be at most 4294967295
+    /// units. Allocates nothing.
     pub fn hold(&mut self, child: Node<A>)
         requires room { 0 < first_room (items_of (self.old ∷ [])) }
         requires fits { weight_sum (items_of (self.old ∷ []))

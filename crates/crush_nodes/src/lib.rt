@@ -1,10 +1,11 @@
 //! The items of the hierarchy, which are devices and buckets, and functions that read, test or copy
-//! items and all that is below them.
+//! items together with everything below them.
 //!
-//! Read [`node`] first: it has the types. A [`guide`] is an index that knows at which place each
-//! item is. A [`descent`] tells a walk at each level which item to enter on the way down to an
-//! item. [`path`] has the descent that is found with a guide. The crate `crush_walks` changes
-//! items, and `crush_tree` has the forest of all items.
+//! Read [`node`] first: it has the types. A *walk* is a function that goes down, level by level,
+//! from a list of items to one item. At each level a [`descent`] tells the walk which item to
+//! enter. A [`guide`] is an index that knows at which place each item is, and [`path`] has the
+//! descent that is found with a guide. The crate `crush_walks` has the walks that change items, and
+//! `crush_tree` has the forest, which is all items of a map.
 #![tactic(auto)]
 
 pub mod apart;

@@ -1,4 +1,4 @@
-//! Tests whether buckets store the sums of their items.
+//! Tests whether buckets store the sums of their items' weights.
 
 ghost use Rattle.std.specs.Prelude.{◌≡◌, ◌==◌, ◌∷◌, [], ◌↔◌, IsTrue};
 ghost use Rattle.crush_model.specs.Stored.{StoresSums, weight_sum};
@@ -10,8 +10,8 @@ use std::alloc::Allocator;
 
 impl<A: Allocator> Node<A> {
     /// Whether each bucket, among the item and all items below it, stores the sum of its own items'
-    /// weights. An item that is put into a hierarchy must pass this test. The cost is linear in the
-    /// number of items.
+    /// weights. An item that is put into a forest must pass this test. The cost is linear in the
+    /// number of these items.
     pub fn stores_sums(&self) -> bool
         ensures { IsTrue result ↔ StoresSums (items_of (self.now ∷ [])) }
     {
@@ -31,8 +31,8 @@ impl<A: Allocator> Node<A> {
     }
 }
 
-/// Whether `sum` is the sum of the weights that the items store. It subtracts the weights from
-/// `sum` instead of adding them, so that nothing can overflow.
+/// Whether `sum` is the sum of the weights that the items store. The function subtracts the weights
+/// from `sum` instead of adding them up, so that nothing can overflow.
 fn is_sum_of<A: Allocator>(sum: Weight, items: &[Node<A>]) -> bool
     ensures { result ≡ (weight_sum (items_of items.now) == sum) }
 {

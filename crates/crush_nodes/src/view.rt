@@ -1,4 +1,4 @@
-//! The results of reading a forest: one item without what is below it, and counts.
+//! The results of reading a forest: a view of one item without the items below it, and counts.
 
 ghost use Rattle.std.specs.Prelude.{◌≡◌};
 
@@ -6,7 +6,7 @@ use crate::node::{Bucket, Leaf, Node};
 use crush_units::{Alg, BucketId, ItemId, TypeId, Weight};
 use std::alloc::Allocator;
 
-/// An item of a forest with its parent, without what is below it.
+/// An item of a forest with its parent, but without the items below it.
 #[derive(Clone, Copy, Debug)]
 pub struct View<'a> {
     pub id: ItemId,
