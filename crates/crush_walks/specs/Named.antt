@@ -1,4 +1,4 @@
--- Names of items, and changes of them.
+-- Names of items, and items with other names.
 use Rattle.std.specs.Prelude.{ℕ, List, Option, Some, None, if◌then◌else◌}
 use Rattle.std.specs.Option.{option_or}
 use Rattle.crush_units.specs.declared.id.ItemId.{ItemId}
@@ -20,7 +20,7 @@ leaf_with_name i n d = if same_id (Device d.id) i then record d { name = n } els
 abbrev pub header_with_name : ItemId → List ℕ → HeaderData → HeaderData
 header_with_name i n h = if same_id (Bucket h.id) i then record h { name = n } else h
 
--- the items with the name n for each item that has the id i, at any depth
+-- the items in which each item that has the id i, at any depth, has the name n
 abbrev pub with_name : ItemId → List ℕ → Items → Items
 with_name i n none = none
 with_name i n (device d rest) = device (leaf_with_name i n d) (with_name i n rest)
@@ -32,7 +32,7 @@ name_of_first none = None
 name_of_first (device d rest) = Some d.name
 name_of_first (bucket h w m kids rest) = Some h.name
 
--- the items with the name n for each of the items themselves, without those below them
+-- the items in which each of the items themselves has the name n; the items below them are unchanged
 abbrev pub with_own_name : List ℕ → Items → Items
 with_own_name n none = none
 with_own_name n (device d rest) = device (record d { name = n }) (with_own_name n rest)

@@ -12,12 +12,12 @@ weights_in none = []
 weights_in (device d rest) = d.weight ∷ weights_in rest
 weights_in (bucket h w m kids rest) = weights_in kids ++ weights_in rest
 
--- the first of some weights, or 0 if there is none
+-- the first of a list of weights, or 0 if the list is empty
 abbrev pub next_weight : List ℕ → ℕ
 next_weight [] = 0
 next_weight (w ∷ ws) = w
 
--- some weights without the first
+-- a list of weights without its first weight
 abbrev pub later_weights : List ℕ → List ℕ
 later_weights [] = []
 later_weights (w ∷ ws) = ws
@@ -34,19 +34,19 @@ with_weights ws none = none
 with_weights ws (device d rest) = device (record d { weight = next_weight ws }) (with_weights (later_weights ws) rest)
 with_weights ws (bucket h w m kids rest) = bucket h w m (with_weights ws kids) (with_weights (weights_after kids ws) rest)
 
--- the items in which the devices below each bucket that has the id b have these weights, as above
+-- the items in which the devices below each bucket that has the id b have the weights ws, as `with_weights` gives them
 abbrev pub with_weights_below : ℕ → List ℕ → Items → Items
 with_weights_below b ws none = none
 with_weights_below b ws (device d rest) = device d (with_weights_below b ws rest)
 with_weights_below b ws (bucket h w m kids rest) = bucket h w m (if h.id == b then with_weights ws kids else with_weights_below b ws kids) (with_weights_below b ws rest)
 
--- if the first item is a bucket, then it can store its sum after the devices below it got these weights
+-- if the first item is a bucket, then it can store its sum after the devices below it have got the weights ws
 abbrev pub FitsWeights : List ℕ → Items → Type 0
 FitsWeights ws none = Unit {0}
 FitsWeights ws (device d rest) = Unit {0}
 FitsWeights ws (bucket h w m kids rest) = weight_sum (with_sums (with_weights ws kids)) ≤ HEAVIEST_BUCKET
 
--- the weights of one run: the weight of the first device, as often as `more` says plus one
+-- the weights of one run: the weight of the run, `more` plus one times
 abbrev pub weights_of_run : WeightRun → List ℕ
 weights_of_run r = r.weight ∷ replicate r.more r.weight
 
@@ -55,6 +55,6 @@ abbrev pub weights_of : List WeightRun → List ℕ
 weights_of [] = []
 weights_of (r ∷ runs) = weights_of_run r ++ weights_of runs
 
--- the weights of several runs in reverse order: the last run comes first
+-- the weights of runs that are stored in reverse order: the weights of the last run come first
 abbrev pub weights_left : List WeightRun → List ℕ
 weights_left runs = weights_of (reverse runs)

@@ -14,7 +14,8 @@ use crush_nodes::node::Node;
 use crush_units::{DeviceId, ItemId, Name};
 use std::alloc::Allocator;
 
-/// Gives a device another class, or none, and returns the old class. `descent` leads to the device.
+/// Gives a device another class, or no class if `class` is `None`. Returns the old class. `descent`
+/// leads to the device.
 pub fn set_class_in<A: Allocator, W: Descent>(
     items: &mut [Node<A>],
     descent: &W,

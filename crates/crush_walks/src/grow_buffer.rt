@@ -1,5 +1,5 @@
-//! Growing the memory of items in a way that can be undone: the old vector is returned, and
-//! `replace_buffer` moves the items back to it without allocating.
+//! Gives a bucket, or a vector of items, more memory in a way that can be undone: the old vector is
+//! returned, and `replace_buffer` moves the items back to it without allocating.
 
 ghost use Rattle.std.specs.Prelude.{◌∷◌, []};
 ghost use Rattle.crush_units.specs.declared.id.ItemId.TheVariants.{Bucket as BucketItem};
@@ -16,11 +16,11 @@ use crush_nodes::node::{Bucket, Node};
 use crush_units::{BucketId, ItemId};
 use std::alloc::{AllocError, Allocator};
 
-/// Ensures that a bucket has room for one more item. If it is full, moves its items to a vector
-/// with 1.5 times the capacity, rounded down, plus one, and returns the old vector, now empty, so
-/// that the growth can be undone. Returns `Ok(None)` and changes nothing if the bucket has room.
-/// Fails with `AllocError` if memory can't be allocated, and then nothing has changed. `descent`
-/// leads to the bucket.
+/// Ensures that a bucket has room for one more item. If the bucket has room already, returns
+/// `Ok(None)` and changes nothing. If the bucket is full, moves its items to a vector with 1.5
+/// times the capacity, rounded down, plus one. In this case returns the old vector, now empty, so
+/// that the growth can be undone. Fails with `AllocError` if memory can't be allocated, and then
+/// nothing has changed. `descent` leads to the bucket.
 pub fn grow_buffer_in<A: Allocator + Clone, W: Descent>(
     items: &mut [Node<A>],
     descent: &W,
@@ -33,8 +33,8 @@ pub fn grow_buffer_in<A: Allocator + Clone, W: Descent>(
     change_at(items, descent, &ItemId::Bucket(place), GrowBuffer)
 }
 
-/// Ensures that a vector of items has room for one more item, as [`grow_buffer_in`] does for a
-/// bucket, with the same results.
+/// Ensures that a vector of items has room for one more item. Returns the same results as
+/// [`grow_buffer_in`] does for a bucket.
 pub fn grow_buffer_of<A: Allocator + Clone>(
     items: &mut Vec<Node<A>, A>,
 ) -> Result<Option<Vec<Node<A>, A>>, AllocError>
@@ -49,7 +49,7 @@ pub fn grow_buffer_of<A: Allocator + Clone>(
 }
 
 /// A change that ensures room for one more item in a bucket. Returns the old vector if the items
-/// moved to a larger one.
+/// have moved to a larger one, otherwise `Ok(None)`. Fails if memory can't be allocated.
 #[derive(Drop)]
 struct GrowBuffer;
 

@@ -17,9 +17,10 @@ use crush_units::{BucketId, ItemId};
 use std::alloc::Allocator;
 use std::mem;
 
-/// Moves the items of a bucket, in order, to `given`, which becomes the bucket's vector. `given`
-/// must be empty and have enough capacity. Returns the old vector, now empty. A second call with
-/// the old vector undoes the first. `descent` leads to the bucket.
+/// Moves the items of a bucket, in order, to the vector `given`, which becomes the bucket's vector.
+/// `given` must be empty, and its capacity must be at least the number of the items. Returns the
+/// old vector, now empty. A second call with the old vector undoes the first call. `descent` leads
+/// to the bucket.
 pub fn replace_buffer_in<A: Allocator, W: Descent>(
     items: &mut [Node<A>],
     descent: &W,
@@ -45,8 +46,9 @@ pub fn replace_buffer_in<A: Allocator, W: Descent>(
     )
 }
 
-/// Moves all items, in order, to `given`, which takes the place of `items`. `given` must be empty
-/// and have enough capacity. Returns the old vector, now empty.
+/// Moves all items, in order, to the vector `given`, which replaces the vector `items`. `given`
+/// must be empty, and its capacity must be at least the number of the items. Returns the old
+/// vector, now empty.
 pub fn replace_buffer_of<A: Allocator>(
     items: &mut Vec<Node<A>, A>,
     mut given: Vec<Node<A>, A>,
@@ -62,7 +64,7 @@ pub fn replace_buffer_of<A: Allocator>(
     mem::replace(items, given)
 }
 
-/// Appends all items of `from` to `to`, which has room for them.
+/// Moves all items of `from` to the end of `to`, which has room for them.
 fn move_all<A: Allocator>(from: &mut Vec<Node<A>, A>, to: &mut Vec<Node<A>, A>)
     requires { vec_len to.old + vec_len from.old ≤ vec_capacity to.old }
     ensures items { to.new.items ≡ to.old.items ++ from.old.items }
