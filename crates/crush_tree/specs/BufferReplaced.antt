@@ -13,7 +13,7 @@ use Rattle.crush_walks.specs.Swapping.{bucket_in}
 use Rattle.crush_tree.specs.Memory.{capacity}
 use Rattle.crush_tree.specs.Sameness.{IsSameForest}
 
--- The forest in which the vector of a place has memory for m items. Nothing else differs.
+-- The forest f in which the vector of a place has memory for m items. Everything else is as in f.
 abbrev pub forest_with_capacity : Place → ℕ → ForestData → ForestData
 forest_with_capacity (AtBucket b) m f = record f { roots = with_capacity b m f.roots }
 forest_with_capacity Root m f = record f { root_capacity = m }
@@ -31,7 +31,7 @@ pub record CanReplaceBuffer {A Z : Type 0} (p : Place) (given : Vec (Node A) Z) 
   pub empty : given.items ≡ []
   pub enough : count_at p f ≤ vec_capacity given
 
--- The items of the place p are now in a vector with memory for m items, and nothing else has changed. The answer is the vector that had the items before; it is now empty. If the items were moved back to that vector, the forest would be exactly what it was before the call.
+-- The items of the place p are now in a vector with memory for m items, and nothing else has changed. The answer is the vector that had the items before; this vector is now empty. If the items were moved back to the old vector, the forest would be exactly what it was before the call.
 pub record ReplacesBuffer {A Z : Type 0} (p : Place) (m : ℕ) (old new : ForestData) (answer : Vec (Node A) Z) : Type 0 where
   pub stands : (t : List Row) → Stands old t → Stands new t
   pub same : IsSameForest new old
@@ -43,7 +43,7 @@ pub record ReplacesBuffer {A Z : Type 0} (p : Place) (m : ℕ) (old new : Forest
   pub room : room_at new p ≡ m - count_at p old
   pub rooms : (q : Place) → same_place q p ≡ false → room_at new q ≡ room_at old q
 
--- If the call succeeds, the place p has room for one more item, the items and rows are the same as before, and no place has less room. If the answer is Ok with a vector, the place was full: its items were moved, as `ReplacesBuffer` says, to a vector with 1.5 times the capacity, rounded down, plus one, and the vector in the answer is the old one. If the answer is Ok without a vector, or an Err, nothing has changed.
+-- If the call succeeds, the place p has room for one more item, the items and rows are the same as before, and no place has less room. If the answer is Ok with a vector, the place was full. Its items were moved, as `ReplacesBuffer` says, to a vector with 1.5 times the capacity, rounded down, plus one, and the answer has the old vector. If the answer is Ok without a vector, or an Err, nothing has changed.
 pub record GrowsBuffer {A Z E : Type 0} (p : Place) (old new : ForestData) (answer : Result (Option (Vec (Node A) Z)) E) : Type 0 where
   pub stands : (t : List Row) → Stands old t → Stands new t
   pub same : IsSameForest new old

@@ -1,10 +1,10 @@
-//! The hierarchy of a CRUSH map as a tree of devices and buckets, a [`Forest`].
+//! A [`Forest`]: the devices and buckets of a CRUSH map, as nested buckets in memory.
 //!
 //! Most methods search the forest for the item that they read or change. A method whose name ends
-//! in `_by` takes a [`Guide`] instead, which returns the place of each item, so that the method
-//! needn't search. `specs/Required.antt` defines what callers must ensure, and `specs/Changed.antt`
-//! defines what the methods change. `crush_hierarchy` adds an index of the forest; the index
-//! implements [`Guide`].
+//! in `_by` doesn't search: it takes a [`Guide`], which returns the place of each item.
+//! `specs/Required.antt` defines what callers must ensure, and `specs/Changed.antt` defines what
+//! the methods change. The crate `crush_hierarchy` combines a forest with an index of its items.
+//! The index implements [`Guide`].
 #![tactic(auto)]
 
 mod forest;

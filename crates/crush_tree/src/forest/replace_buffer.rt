@@ -15,9 +15,10 @@ use crush_walks::replace_buffer::{replace_buffer_in, replace_buffer_of};
 use std::alloc::{AllocError, Allocator};
 
 impl<A: Allocator> Forest<A> {
-    /// Moves the items of a place into the vector `given`, and returns the vector in which they
-    /// were, now empty. The place must exist. `given` must be empty, and have memory for all items
-    /// of the place. A second call with the returned vector undoes the first.
+    /// Moves the items of a place into the vector `given`, and returns the vector that had the
+    /// items before, now empty. The place must exist. `given` must be empty, and must have memory
+    /// for all items of the place. A second call with the returned vector undoes the first call.
+    /// Allocates nothing.
     pub fn replace_buffer(&mut self, place: Place, given: Vec<Node<A>, A>) -> Vec<Node<A>, A>
         requires { CanReplaceBuffer place given self.old }
         ensures { ReplacesBuffer place (vec_capacity given) self.old self.new result }
@@ -49,10 +50,10 @@ impl<A: Allocator> Forest<A> {
 
 impl<A: Allocator + Clone> Forest<A> {
     /// Ensures that a place, which must exist, has room for one more item, in a way that can be
-    /// undone. If the place is full, moves its items to a vector with 1.5 times the capacity,
-    /// rounded down, plus one, and returns the old vector. With that vector,
-    /// [`Forest::replace_buffer`] undoes the call. If the place had room, returns `Ok(None)` and
-    /// changes nothing. Returns an error if memory can't be allocated; then nothing changes.
+    /// undone. If the place already has room, returns `Ok(None)` and changes nothing. If the place
+    /// is full, moves its items to a vector with 1.5 times the capacity, rounded down, plus one,
+    /// and returns the old vector. [`Forest::replace_buffer`], called with the old vector, undoes
+    /// this. Fails with `AllocError` if memory can't be allocated, and then nothing has changed.
     pub fn grow_buffer(&mut self, place: Place) -> Result<Option<Vec<Node<A>, A>>, AllocError>
         requires { is_place (rows_of self.old) place ≡ true }
         ensures { GrowsBuffer place self.old self.new result }
