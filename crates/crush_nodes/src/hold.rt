@@ -1,4 +1,4 @@
-//! Filling a bucket before it is put into a forest.
+//! Appends an item to a bucket. The bucket may be in a forest or not.
 
 ghost use Rattle.std.specs.Prelude.{◌≡◌, ℕ, ◌+◌, ◌<◌, ◌≤◌, ◌∷◌, [], ◌++◌, Option, nat_lt};
 ghost use Rattle.crush_model.specs.ItemRows.{rows};
@@ -29,9 +29,9 @@ impl<A: Allocator> Node<A> {
         }
     }
 
-    /// Appends a child to a bucket, and adds the child's weight to the bucket's weight. The bucket
-    /// must have room, which [`Node::has_room`] tests. The new weight must be at most 4294967295
-    /// units. Allocates nothing.
+    /// Appends a child to a bucket, and adds the child's weight to the bucket's weight. Doesn't
+    /// change the buckets above this bucket. The bucket must have room, which [`Node::has_room`]
+    /// tests. The new weight must be at most 4294967295 units. Allocates nothing.
     pub fn hold(&mut self, child: Node<A>)
         requires room { 0 < first_room (items_of (self.old ∷ [])) }
         requires fits { weight_sum (items_of (self.old ∷ []))

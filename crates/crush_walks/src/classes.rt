@@ -1,4 +1,4 @@
-//! Setting the class of a device.
+//! Sets the class of a device.
 
 ghost use Rattle.std.specs.Prelude.{◌≡◌};
 ghost use Rattle.crush_units.specs.declared.id.ItemId.TheVariants.{Device};

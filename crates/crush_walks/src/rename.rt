@@ -1,4 +1,4 @@
-//! Renaming an item.
+//! Gives an item another name.
 
 ghost use Rattle.std.specs.Prelude.{◌≡◌, Some};
 ghost use Rattle.crush_walks.specs.Named.{name_in, with_name};

@@ -1,4 +1,4 @@
-//! Moving items to another vector, without allocating.
+//! Moves items to another vector, without allocating.
 
 ghost use Rattle.std.specs.Prelude.{◌≡◌, ◌+◌, ◌≤◌, [], ◌++◌, vec_capacity, vec_len};
 ghost use Rattle.crush_units.specs.declared.id.ItemId.TheVariants.{Bucket as BucketItem};
