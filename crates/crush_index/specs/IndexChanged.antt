@@ -15,7 +15,7 @@ pub record Inserts {X E : Type 0} (place : Place) (n : Items) (old new : Index) 
   pub err : OnErr answer (StaysIndex place n old new)
   pub hashing : hashings new ≡ hashings old
 
--- the items were removed; this holds both if they were an item of the table with everything below it (LosesPart), and if their rows were the last of the table (LosesRows)
+-- the items were removed from the index. LosesPart is for a table in which they were an item with everything below it. LosesRows is for a table that ended with their rows
 pub record Removes (n : Items) (old new : Index) : Type 0 where
   pub part : LosesPart n old new
   pub rows : LosesRows n old new
@@ -32,7 +32,7 @@ pub record ForgetsName (name : List ℕ) (old new : Index) : Type 0 where
   pub gone : answers new ≡ without_name name (answers old)
   pub hashing : hashings new ≡ hashings old
 
--- if the call succeeds, the row was added; if it fails, all answers are as before, except that the answers for the row's name and ids may be any
+-- if the call succeeds, the row was added; if it fails, all answers are as before, except for the row's name and ids, for which the index may give any answers
 pub record InsertsRow {X E : Type 0} (r : Row) (old new : Index) (answer : Result X E) : Type 0 where
   pub ok : OnOk answer (answers new ≡ with_row r (answers old))
   pub err : OnErr answer (without_rows (r ∷ []) (answers new) ≡ without_rows (r ∷ []) (answers old))

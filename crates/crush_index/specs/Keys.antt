@@ -18,7 +18,7 @@ digest h name = sip.finish (fold sip.write (first_state h.keys) (at_once name))
 abbrev pub key_of : Hashing → List ℕ → ℕ × List ℕ
 key_of h name = (digest h name, name)
 
--- the key that is looked for: the digest of a name and the borrowed bytes of the name
+-- the key of a look-up: the digest of a name and the borrowed bytes of the name
 abbrev pub lookup_key : LookupKey → ℕ × List ℕ
 lookup_key lookup = (lookup.digest, lookup.bytes.now)
 
@@ -38,7 +38,7 @@ same_digests x y e = Prim.search (comparing, rules)
 abbrev pub nothing_passed : IdentityHasher
 nothing_passed = record { digest = 0 }
 
--- the first eight bytes of a list
+-- the first eight bytes of a list; a byte that the list doesn't have counts as 0
 abbrev pub eight : List ℕ → List ℕ
 eight bs =
     slice_index bs 0 ∷ slice_index bs 1 ∷ slice_index bs 2 ∷ slice_index bs 3 ∷ slice_index bs 4 ∷ slice_index bs 5 ∷ slice_index bs 6 ∷ slice_index bs 7 ∷ []

@@ -29,18 +29,18 @@ abbrev pub NamesFollowRow : Type 0
 NamesFollowRow =
     (old new : Names) (t : List Row) (r : Row) → AreNamesOf t old → is_named t r.name ≡ false → AnswersOne old new r.name (Some r.id) → AreNamesOf (t ++ r ∷ []) new
 
--- an item's row is removed from a lawful table: its name is removed
+-- an item's row is removed from a lawful table: the item's name is removed from the index
 abbrev pub NamesFollowWithout : Type 0
 NamesFollowWithout =
     (old new : Names) (t : List Row) (i : ItemId) (name : List ℕ) → Lawful t → AreNamesOf t old → name_of t i ≡ Some name → AnswersOne old new name None → AreNamesOf (without_row i t) new
 
--- an item gets another name, and the table is lawful before and after: the new name gets its id, and the old name is removed
+-- an item gets another name, and the table is lawful before and after: the new name gets the item's id, and the old name is removed
 abbrev pub NamesFollowName : Type 0
 NamesFollowName =
     (old new : Names) (t : List Row) (i : ItemId) (from to : List ℕ) → Lawful t → Lawful (set_name i to t) → AreNamesOf t old → name_of t i ≡ Some from
     → AnswersTwo old new to (Some i) from None → AreNamesOf (set_name i to t) new
 
--- two different buckets exchange their names and items. If the table is lawful before, and also if only the names are exchanged, then each of the names gets the id of the other bucket
+-- two different buckets exchange their names and items: each of the two names gets the id of the other bucket. The law requires that the table is lawful before the exchange, and that it would be lawful if the two buckets exchanged only their names
 abbrev pub NamesFollowSwap : Type 0
 NamesFollowSwap =
     (old new : Names) (t : List Row) (a b : ℕ) (first second : List ℕ) → Lawful t → Lawful (exchange_names a b t) → (a == b) ≡ false → AreNamesOf t old

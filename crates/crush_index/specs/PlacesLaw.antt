@@ -32,7 +32,7 @@ PlacesFollowRow =
     (old new : Places) (t : List Row) (r : Row) → ArePlacesOf t old → is_there t r.id ≡ false → StandsAt old new r.id (Some (place_under (is_device r) r.parent))
     → ArePlacesOf (t ++ r ∷ []) new
 
--- an item's row is removed: the item has no place
+-- an item's row is removed: the item then has no place in the index
 abbrev pub PlacesFollowWithout : Type 0
 PlacesFollowWithout =
     (old new : Places) (t : List Row) (i : ItemId) → ArePlacesOf t old → StandsAt old new i None → ArePlacesOf (without_row i t) new

@@ -1,4 +1,4 @@
--- Which slot each bucket has, which bucket has a slot, which entry a bucket has, and how calls change this.
+-- Which slot each bucket has, which bucket has a given slot, which entry a bucket has, and how calls change all this. A slot is a number that each bucket has in addition to its id.
 use Rattle.std.specs.Prelude.{◌≡◌, ◌==◌, ℕ, Option, None, if◌then◌else◌}
 use Rattle.crush_model.specs.Columns.{exchange_id}
 use Rattle.crush_index.specs.DenseMapAnswers.{numbered_hashing}

@@ -18,7 +18,7 @@ bucket_in slots s = unwrap_or (option_map (λ (k : Slot). k.bucket) (answer_at s
 abbrev pub entry_in : DenseMap Slot → ℕ → Option Entry
 entry_in slots s = option_and_then (λ (k : Slot). k.entry) (answer_at slots s)
 
--- INVERSE: the two maps are inverse to each other: the bucket of a bucket's slot is this bucket, and the slot of a slot's bucket is this slot; if the map `slots` has an entry for the slot of a bucket, then the map `numbers` has an entry for this bucket
+-- INVERSE: the map `numbers` gives the slot of each bucket, and the map `slots` gives the bucket of each slot. The two maps are inverse to each other: if a bucket has a slot, then this slot has this bucket, and the other way round. If the map `slots` has an entry for the slot of a bucket, then the map `numbers` has an entry for this bucket
 pub record AreInverse (numbers : DenseMap ℕ) (slots : DenseMap Slot) : Type 0 where
   pub bucket : (b : ℕ) → bucket_in slots (slot_in numbers b) ≡ b
   pub slot : (s : ℕ) → slot_in numbers (bucket_in slots s) ≡ s

@@ -10,7 +10,7 @@ use Rattle.crush_index.specs.declared.used.UsedIds.{UsedIds}
 abbrev pub used_answer : UsedIds → ℕ → Bool
 used_answer used k = bit_answer used.words.items used.sparse k || is_some (chain_answer (nat_eq k) used.overflow)
 
--- USED IDS OF A TABLE: an id is used if and only if the table uses it
+-- USED IDS OF A TABLE: an id is used if and only if it is the id of a bucket of the table, or a class id of a bucket of the table
 abbrev pub AreUsedIn : List Row → UsedIds → Type 0
 AreUsedIn t used = (k : ℕ) → used_answer used k ≡ member k (used_ids t)
 

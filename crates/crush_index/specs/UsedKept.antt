@@ -1,10 +1,10 @@
--- How used ids are stored, except for those in the chain.
+-- How used ids are stored, except for those in the chain. An id is given as its distance below 0.
 use Rattle.std.specs.Prelude.{ℕ, ◌/◌, ◌%◌, ◌==◌, List, Bool, if◌then◌else◌, nat_eq, nat_lt, slice_index}
 use Rattle.std.specs.Int.{bit_at}
 use Rattle.indexmap.specs.IndexSet.{IndexSet, contains}
 use Rattle.crush_index.specs.declared.hashing.Hashing.{Hashing}
 
--- each id below this number has a bit
+-- an id below this number is stored as a bit
 abbrev pub near_ids : ℕ
 near_ids = 69696
 

@@ -1,5 +1,5 @@
-//! A linked list for the entries that an undo must restore to a table although no memory is left
-//! for the table to grow.
+//! A linked list. It stores the entries that an undo must put back into a table when no memory is
+//! left with which the table could grow.
 
 ghost use Rattle.std.specs.Prelude.{◌≡◌, Bool, IfOk, is_some};
 ghost use Rattle.std.specs.Option.{option_map};
@@ -8,7 +8,7 @@ ghost use Rattle.crush_index.specs.Chains.{chain_answer, chain_with, chain_witho
 use std::alloc::{AllocError, Global};
 use std::mem::replace;
 
-/// A key to look for, which says of each stored key whether it matches.
+/// The key of a look-up. It decides for each stored key whether the stored key matches.
 pub(crate) trait KeyMatch<K> {
     /// Whether a stored key matches.
     ghost matches: { Self → K → Bool };
@@ -27,9 +27,9 @@ impl KeyMatch<u32> for u32 {
     }
 }
 
-/// A linked list of keys with their values. The memory of each link was allocated in advance, so
-/// that an entry can be added even when memory has run out. The list is nearly always empty. A
-/// look-up goes through it link by link.
+/// A linked list of keys with their values. The memory of each added link was allocated in advance,
+/// so that an entry can be added even when memory has run out. The list is nearly always empty. A
+/// look-up compares the keys of the list one after the other.
 pub(crate) enum Chain<K: Drop, V: Drop> {
     End,
     Link {

@@ -3,7 +3,7 @@
 
 use std::hash::{BuildHasher, Hasher};
 
-/// Creates an [`IdentityHasher`] for each look-up in the table of names.
+/// Creates an [`IdentityHasher`] each time that the table of names hashes a key.
 #[derive(Clone, Copy)]
 pub(crate) struct IdentityHashing;
 

@@ -83,7 +83,7 @@ impl Hash for Key {
     }
 }
 
-/// A key to look for: the borrowed bytes of a name, with the digest of the name.
+/// The key of a look-up: the borrowed bytes of a name, with the digest of the name.
 #[derive(Clone, Copy)]
 pub(crate) struct LookupKey<'a> {
     digest: u64,
@@ -91,7 +91,7 @@ pub(crate) struct LookupKey<'a> {
 }
 
 impl<'a> LookupKey<'a> {
-    /// Returns the key with which the name that has these bytes is looked for.
+    /// Returns the key for a look-up of the name that has these bytes.
     pub(crate) fn of(bytes: &'a [u8], hashing: &Hashing) -> LookupKey<'a>
         ensures { lookup_key result ≡ key_of hashing.now bytes.now }
     {

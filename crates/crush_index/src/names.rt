@@ -20,8 +20,8 @@ pub(crate) struct Names {
     global: Global,
     hashing: Hashing,
     ids: IndexMap<Key, ItemId, IdentityHashing>,
-    /// The names that an undo restored when no memory was left for `ids` to grow, with the ids of
-    /// their items.
+    /// The names, with the ids of their items, that an undo restored when no memory was left with
+    /// which `ids` could grow.
     overflow: Chain<Key, ItemId>,
 }
 
@@ -78,8 +78,8 @@ impl Names {
         self.overflow.remove(&lookup);
     }
 
-    /// Inserts a name with its id, as [`Names::insert`] does, but can't fail: if memory runs out,
-    /// the entry is stored in the memory `spare`.
+    /// Inserts a name with its id, as [`Names::insert`] does, but can't fail: if no memory can be
+    /// allocated, the entry is stored in the memory `spare`.
     pub(crate) fn restore(&mut self, name: Name<Global>, id: ItemId, spare: Spare<Key, ItemId>)
         ensures answers { AnswersOne self.old self.new name (Some id) }
         ensures hashing { names_hashing self.new ≡ names_hashing self.old }

@@ -1,5 +1,6 @@
-//! The entries of items in the index. An entry names the bucket that holds the item by the bucket's
-//! slot instead of its id. The module `slots` has the slot of each bucket.
+//! The entries of items in the index. The entry of an item says which bucket holds the item. It
+//! names this bucket by the bucket's *slot* instead of the bucket's id. A slot is a number that
+//! each bucket has in addition to its id. The module `slots` stores which slot each bucket has.
 
 use crush_units::BucketId;
 
@@ -18,12 +19,12 @@ pub(crate) enum SlotParent {
 #[derive(Clone, Copy)]
 pub(crate) struct Entry {
     pub(crate) parent: SlotParent,
-    /// The probable position of the parent's slot in the map `Slots::slots`, which gives the bucket
-    /// of a slot. A look-up tries this position first, and checks whether the slot is there. If
-    /// `parent` names no slot, the hint is 0.
+    /// A hint: the probable position of the parent's slot in the map `Slots::slots`, in which the
+    /// bucket of a slot is looked up. A look-up tries this position first, and checks whether the
+    /// slot is there. If `parent` names no slot, the hint is 0.
     pub(crate) slot_hint: u32,
-    /// A hint: the item's probable index among its siblings, from 0. A walk tries this index first,
-    /// and checks whether the item is there.
+    /// A hint: the item's probable index among its siblings, from 0. A search for the item tries
+    /// this index first, and checks whether the item is there.
     pub(crate) hint: u32,
 }
 

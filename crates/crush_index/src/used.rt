@@ -12,21 +12,22 @@ use crush_units::limits::FARTHEST_BUCKET_ID;
 use indexmap::IndexSet;
 use std::alloc::{AllocError, Global};
 
-/// Each id whose distance below 0 is less than `DENSE_END` has a bit. These ids include all free
-/// ids that an edit needs: a map uses at most 17 ids for each of its 4,096 buckets, and an edit
-/// needs at most 16 more, which are the free ids nearest to 0.
+/// An id whose distance below 0 is less than `DENSE_END` is stored as a bit. These ids include all
+/// free ids that an edit needs: a map uses at most 17 ids for each of its at most 4,096 buckets,
+/// and an edit needs at most 16 more, which are the free ids nearest to 0.
 const DENSE_END: u32 = 69696;
 
 /// The set of used ids. Each id is given as its distance below 0.
 ///
-/// Each id whose distance is less than [`DENSE_END`] has a bit in `words`, which is set if the id
-/// is used. The search for a free id tests 64 of these ids at a time. All other used ids are in a
-/// hash set. The vector `words` never becomes shorter.
+/// For each used id whose distance is less than [`DENSE_END`], a bit in `words` is set. The search
+/// for a free id tests 64 of these ids at a time. All other used ids are in a hash set. The
+/// exceptions are the ids in `overflow`. The vector `words` never becomes shorter.
 #[derive(Drop)]
 pub(crate) struct UsedIds {
     words: Vec<u64>,
     sparse: IndexSet<u32, Hashing>,
-    /// The ids that an undo restored when no memory was left for `words` or `sparse` to grow.
+    /// The ids that an undo restored when no memory was left with which `words` or `sparse` could
+    /// grow.
     overflow: Chain<u32, ()>,
     ghost few: { length words.items ≤ 1089 },
 }
@@ -91,8 +92,8 @@ impl UsedIds {
         Ok(())
     }
 
-    /// Inserts an id, as [`UsedIds::insert`] does, but can't fail: if memory runs out, the id is
-    /// stored in the memory `spare`.
+    /// Inserts an id, as [`UsedIds::insert`] does, but can't fail: if no memory can be allocated,
+    /// the id is stored in the memory `spare`.
     pub(crate) fn restore(&mut self, id: u32, spare: Spare<u32, ()>)
         ensures answers { UsesOne self.old self.new id true }
         ensures hashing { used_hashing self.new ≡ used_hashing self.old }
@@ -124,9 +125,9 @@ impl UsedIds {
         None
     }
 
-    /// Returns an id from which a search for a free id can start: the result is at least `least`,
-    /// and all ids from `least` to the id before the result are used. The result is usually itself
-    /// free.
+    /// Returns an id at which a search for a free id can start: the result is at least `least`, and
+    /// all ids from `least` to the id before the result are used. The result itself is usually
+    /// free, but an id in `overflow` is used although its bit isn't set.
     fn first_clear(&self, least: u32) -> u32
         ensures least { least ≤ result }
         ensures used { (k : ℕ) → least ≤ k → k < result → used_answer self.now k ≡ true }
@@ -180,7 +181,7 @@ fn word_at(words: &[u64], place: usize) -> u64
     }
 }
 
-/// Appends words that are 0 until there is a word with the index `place`. Returns an error if
+/// Appends words that are 0 until the vector has a word with the index `place`. Returns an error if
 /// memory runs out.
 fn grow_to(words: &mut Vec<u64>, place: usize) -> Result<(), AllocError>
     requires within { place < 1089 }
@@ -195,8 +196,8 @@ fn grow_to(words: &mut Vec<u64>, place: usize) -> Result<(), AllocError>
     Ok(())
 }
 
-/// Returns the number of the lowest bit whose id is at least `least`, in the word with the index
-/// `place`.
+/// Returns the number of the lowest bit, from 0, whose id is at least `least`, in the word with the
+/// index `place`.
 fn first_bit(least: u32, place: usize) -> u32
     requires { least / 64 ≤ place }
     ensures within { result < 64 }

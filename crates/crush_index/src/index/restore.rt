@@ -1,5 +1,5 @@
 //! Restores names and items that were removed. The memory for this is allocated before the removal,
-//! so that the restoring, and with it the undo of an edit, can't fail.
+//! so that the undo of an edit can't fail.
 
 ghost use Rattle.std.specs.Prelude.{◌≡◌, ◌+◌, ◌<◌, ◌∷◌, [], ℕ, Option, IfOk, length, true};
 ghost use Rattle.crush_model.specs.ItemRows.{device_row, bucket_row};
@@ -23,15 +23,15 @@ use crush_nodes::place::Place;
 use crush_units::{BucketId, ItemId, Name};
 use std::alloc::{AllocError, Allocator, Global};
 
-/// A copy of a name, with the memory that is needed to restore the name to the index.
-/// [`Index::name_memory`] creates it, and [`Index::restore_name`] uses it.
+/// A copy of a name, with the memory that is needed to put the name back into the index.
+/// [`Index::name_memory`] returns this value, and [`Index::restore_name`] uses it.
 #[derive(Drop)]
 pub struct NameMemory {
     name: Name<Global>,
     spare: Spare<Key, ItemId>,
 }
 
-/// The memory that is needed to restore the place of an item to the index.
+/// The memory that is needed to put the place of an item back into the index.
 #[derive(Drop)]
 pub(crate) enum PlaceMemory {
     Device {
@@ -44,7 +44,7 @@ pub(crate) enum PlaceMemory {
 }
 
 /// What is needed to restore an item that has no items below it: a copy of the item's name, and
-/// memory. [`Index::restore_memory`] creates it, and [`Index::restore_node`] uses it.
+/// memory. [`Index::restore_memory`] returns this value, and [`Index::restore_node`] uses it.
 #[derive(Drop)]
 pub struct RestoreMemory {
     name: NameMemory,
@@ -56,7 +56,8 @@ pub struct RestoreMemory {
 }
 
 impl Index {
-    /// Copies a name and allocates the memory with which [`Index::restore_name`] restores it.
+    /// Copies a name, and allocates the memory with which [`Index::restore_name`] restores the
+    /// name.
     ///
     /// Call this method before the name is removed. Returns an error if memory runs out.
     pub fn name_memory<A: Allocator>(&self, name: &Name<A>) -> Result<NameMemory, AllocError>
@@ -109,8 +110,9 @@ impl Index {
         })
     }
 
-    /// Gives a name back to an item, as [`Index::add_name`] would, but can't fail: if memory runs
-    /// out, the name is stored in `memory`.
+    /// Gives a name back to an item. The call does the same as [`Index::add_name`], but it can't
+    /// fail: it first tries to allocate memory as usual, and if this fails, it stores the name in
+    /// `memory`.
     pub fn restore_name(&mut self, memory: NameMemory, id: ItemId)
         ensures answers { answers self.new ≡ with_name memory.name id (answers self.old) }
         ensures hashing { hashings self.new ≡ hashings self.old }
@@ -119,9 +121,9 @@ impl Index {
         self.names.restore(name, id, spare);
     }
 
-    /// Adds an item that has no items below it as the last item of a place, as
-    /// [`Index::insert_node`] does, but can't fail: if memory runs out, the entries are stored in
-    /// `memory`.
+    /// Adds an item that has no items below it, as the last item of a place. The call does the same
+    /// as [`Index::insert_node`], but it can't fail: it first tries to allocate memory as usual,
+    /// and if this fails, it stores the entries in `memory`.
     ///
     /// `hint` is the item's index among the items of the place, from 0. A wrong hint changes no
     /// answer. `memory` must be the result of [`Index::restore_memory`] for this item, so that it
@@ -237,8 +239,8 @@ fn restore_ids<A: Allocator>(
     }
 }
 
-/// Marks an id as used, and can't fail. Takes one link out of `spares`. If no other memory is left,
-/// the id is stored in this link.
+/// Marks an id as used, and can't fail. Takes one link out of `spares`. If no other memory can be
+/// allocated, the id is stored in this link.
 fn restore_id(used: &mut UsedIds, id: BucketId, spares: &mut Vec<Spare<u32, ()>>)
     requires { 0 < length spares.old.items }
     ensures answers { UsesOne used.old used.new id true }
