@@ -16,7 +16,7 @@ use Rattle.crush_index.specs.declared.index.Index.{Index}
 use Rattle.crush_index.specs.declared.index.restore.NameMemory.{NameMemory}
 use Rattle.crush_hierarchy.specs.declared.hierarchy.renamed.OldName.{OldName}
 
--- What an index answers after the item i was renamed from the first name to the second: the second name has the id i, and the first name has no id. If an item already had the second name, the answers are the same as before.
+-- What an index answers after the item i was renamed from `own` to `name`: the name `name` has the id i, and the name `own` has no id. If an item already had the name `name`, the answers are the same as before.
 abbrev pub answers_named : ItemId → List ℕ → List ℕ → Index → Answers
 answers_named i own name index = if is_some (id_answer index.names name) then answers index else without_name own (with_name name i (answers index))
 
@@ -27,7 +27,7 @@ pub record TellsName {E : Type 0} (i : ItemId) (name own : List ℕ) (old new : 
   pub err : OnErr answer (answers new ≡ answers old)
   pub hashing : hashings new ≡ hashings old
 
--- The item i exists and can be given its old name, and the memory that was kept for the index is for this name.
+-- The item i exists, the table in which it has its old name is lawful, and the memory that was kept for the index is for this name.
 pub record CanRestoreName {A : Type 0} (i : ItemId) (old : OldName A) (g : ForestData) : Type 0 where
   pub can : CanRename i old.name g
   pub back : old.back.name ≡ old.name

@@ -1,5 +1,6 @@
-//! Arithmetic on counts and weights. Each change of a hierarchy uses it to update the hierarchy's
-//! counts and total, so that the items needn't be counted again.
+//! Arithmetic on counts and weights. With these functions, a change updates the numbers of devices
+//! and buckets and the total weight that the hierarchy stores. So only the items that are added,
+//! removed or weighed have to be counted, and not all items of the hierarchy.
 
 ghost use Rattle.std.specs.Prelude.{◌≡◌, ◌≤◌, ◌+◌, ◌∷◌, []};
 ghost use Rattle.crush_units.specs.declared.limits.TheConstants.{HEAVIEST_MAP};

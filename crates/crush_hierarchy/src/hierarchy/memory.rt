@@ -11,9 +11,10 @@ use crush_tree::{Node, Place};
 use std::alloc::{AllocError, Allocator};
 
 impl<A: Allocator> Hierarchy<A> {
-    /// Moves the items of a place into the vector `given`, and returns the vector in which they
-    /// were, now empty. The place must exist. `given` must be empty, and have memory for all items
-    /// of the place. A second call with the returned vector undoes the first. Allocates nothing.
+    /// Moves the items of a place into the vector `given`, and returns the vector in which the
+    /// items were before, which is now empty. The place must exist. `given` must be empty, and must
+    /// have memory for all items of the place. A second call with the returned vector undoes the
+    /// first call. Allocates nothing.
     pub fn replace_buffer(&mut self, place: Place, given: Vec<Node<A>, A>) -> Vec<Node<A>, A>
         requires { CanReplaceBuffer place given self.old }
         ensures { ReplacesBuffer place (vec_capacity given) self.old self.new result }
@@ -27,12 +28,12 @@ impl<A: Allocator> Hierarchy<A> {
 }
 
 impl<A: Allocator + Clone> Hierarchy<A> {
-    /// Ensures that a place, which must exist, has room for one more item, in a way that can be
-    /// undone. If the place is full, moves its items to a vector with 1.5 times the capacity,
-    /// rounded down, plus one, and returns the old vector. With that vector,
-    /// [`Hierarchy::replace_buffer`] undoes the call. If the place has room already, returns
-    /// `Ok(None)` and changes nothing. Returns an error if memory can't be allocated; then nothing
-    /// changes.
+    /// Ensures that a place has room for one more item, in a way that can be undone. The place must
+    /// exist. If the place is full, the call moves the items of the place to a vector with 1.5
+    /// times the capacity, rounded down, plus one, and returns the old vector. With the old vector,
+    /// [`Hierarchy::replace_buffer`] undoes the call. If the place already has room, the call
+    /// returns `Ok(None)` and changes nothing. Returns an error if memory can't be allocated; then
+    /// nothing changes.
     pub fn grow_buffer(&mut self, place: Place) -> Result<Option<Vec<Node<A>, A>>, AllocError>
         requires { is_place (rows_of self.old) place ≡ true }
         ensures { GrowsBuffer place self.old self.new result }

@@ -1,4 +1,5 @@
-//! Gives items other names, and gives them their old names back without allocating memory.
+//! Gives items other names, and gives items their old names back even if no memory can be
+//! allocated.
 
 ghost use Rattle.std.specs.Prelude.{◌≡◌};
 ghost use Rattle.crush_tree.specs.Exact.{forest_with_name};
@@ -40,7 +41,9 @@ impl<A: Allocator> Hierarchy<A> {
     }
 
     /// Gives an item its old name back, which undoes [`Hierarchy::replace_name`]. The item must
-    /// exist, and no other item may have the old name. Allocates nothing.
+    /// exist, and no other item may have the old name. The call can't fail: if the index needs more
+    /// memory, it first tries to allocate it, and if this fails, it uses the memory that
+    /// [`Hierarchy::replace_name`] allocated. The forest allocates nothing.
     pub fn restore_name(&mut self, id: ItemId, old: OldName<A>)
         requires { CanRestoreName id old self.old }
         ensures { self.new ≡ forest_with_name id old.name self.old }
@@ -59,10 +62,10 @@ impl<A: Allocator> Hierarchy<A> {
     }
 }
 
-/// Replaces the name of an item in the index by `name`. If an item already has the name `name`,
-/// which can only be the item itself, the index isn't changed. Returns what the index needs to
-/// restore the old name. Returns an error if memory can't be allocated; then the index answers as
-/// before.
+/// Replaces the name `old` of an item in the index by `name`. If an item already has the name
+/// `name`, the index isn't changed. In a call of [`Hierarchy::replace_name`], this can only be the
+/// renamed item itself. Returns what the index needs to restore the old name. Returns an error if
+/// memory can't be allocated; then the index answers as before.
 fn tell_new_name<A: Allocator>(
     index: &mut Index,
     id: ItemId,
