@@ -1,4 +1,4 @@
--- When an item can be put at a destination, before the tests of room and of sums.
+-- When an item can be put at a destination. The numbers of devices and buckets, and the sums, are not tested yet.
 use Rattle.std.specs.Prelude.{◌≡◌, ℕ, ◌≤◌, List, true, false, bytes_eq}
 use Rattle.std.specs.List.{count_by}
 use Rattle.crush_units.specs.declared.id.ItemId.{ItemId}
@@ -16,7 +16,7 @@ pub record CanMove (t : List Row) (i : ItemId) (to : DestinationData) : Type 0 w
   pub there : is_there t i ≡ true
   pub apart : IsApart t i to.stops
 
--- the device d, with the name n and the weight w, can be put at the destination, whether the table has it or not: no other item has the name, the device has no other name, no stop has the name, and the weight is in range
+-- the device d, with the name n and the weight w, can be put at the destination, whether the table has it or not: no other item has the name, the table doesn't have the device with another name, no stop has the name, and the weight is in range
 pub record CanArrive (t : List Row) (d : ℕ) (n : List ℕ) (w : ℕ) (to : DestinationData) : Type 0 where
   pub leads : Leads t to
   pub own : is_taken t (Device d) n ≡ false

@@ -13,7 +13,7 @@ use Rattle.crush_edits.specs.Located.{is_type_zero, names_it}
 use Rattle.crush_edits.specs.Setting.{SettingData, kind_number}
 use Rattle.crush_edits.specs.Stops.{StopData, stops, end_stop}
 
--- the name of the first pair for which a test holds; the test also gets the pairs after that pair
+-- a name from the first pair for which the test holds, or None if there is no such pair. The test gets a pair and the pairs after it; the function `name` selects the type name or the bucket name of the pair
 abbrev pub first_name : (Pair → List Pair → Bool) → (Pair → List ℕ) → List Pair → Option (List ℕ)
 first_name test name [] = None
 first_name test name (p ∷ l) = if test p l then Some (name p) else first_name test name l
@@ -30,7 +30,7 @@ bad_name s l = option_or (first_name (is_wrong_type s) (λ (p : Pair). p.kind) l
 abbrev pub unknown_type : SettingData → List Pair → Option (List ℕ)
 unknown_type s l = first_name (λ (p : Pair) l. is_none (kind_number s p.kind)) (λ (p : Pair). p.kind) l
 
--- the name of the item that ends the route
+-- the name of the item that ends the route, or None if no item ends it
 abbrev pub end_name : List Row → List StopData → Option (List ℕ)
 end_name t ps = option_map (λ (p : StopData). p.name) (end_stop t ps)
 

@@ -1,4 +1,4 @@
--- The undo log of a batch. The definitions say which forest results when an entry of the log is used to undo an edit. In all of them, undoing an edit in the forest g results in the forest f.
+-- The undo log of a batch. The definitions say which forest results when an entry of the log is used to undo an edit. In all definitions, g is the forest before the edit is undone, and f is the forest after it is undone.
 use Rattle.std.specs.Prelude.{◌≡◌, ℕ, ◌≤◌, List, [], ◌∷◌, Option, Some, None, Result, Ok, Err, IfOk, Bool, true, false}
 use Rattle.crush_units.specs.declared.id.ItemId.TheVariants.{Device, Bucket}
 use Rattle.crush_units.specs.declared.limits.TheConstants.{HEAVIEST_DEVICE}
@@ -54,7 +54,7 @@ pub record GivesName {A : Type 0} (b : ℕ) (old : OldName A) (g f : ForestData)
   pub can : CanRestoreName (Bucket b) old g
   pub is : f ≡ forest_with_name (Bucket b) old.name g
 
--- if the entry is used to undo an edit in the forest g, the result is exactly the forest f: the same items in the same order, with the same memory
+-- if the entry is used to undo an edit in the forest g, the result is exactly the forest f: the same items in the same order, with the same room in each place
 abbrev pub Undoes : {A : Type 0} → Undo A → ForestData → ForestData → Type 0
 Undoes (Weight d w) g f = GivesWeight d w g f
 Undoes (Class d class) g f = GivesClass d class g f
@@ -65,21 +65,21 @@ Undoes (Renamed b old) g f = GivesName b old g f
 Undoes (Arrived addition) g f = UndoesAddition addition g f
 Undoes (Moved old_stand addition) g f = Returns old_stand addition g f
 
--- the same for an entry that may be missing: without an entry, g is f
+-- the same for an entry that may be missing: if there is no entry, g equals f
 abbrev pub UndoesAny : {A : Type 0} → Option (Undo A) → ForestData → ForestData → Type 0
 UndoesAny None g f = g ≡ f
 UndoesAny (Some undo) g f = Undoes undo g f
 
--- if all entries of a log are undone in the forest g, beginning with the last entry, the result is f
+-- if all entries of a log are used to undo their edits in the forest g, beginning with the last entry, the result is f
 abbrev pub RollsBack : {A : Type 0} → List (Undo A) → ForestData → ForestData → Type 0
 RollsBack [] g f = g ≡ f
 RollsBack (undo ∷ log) g f = (e : ForestData) × RollsBack log g e × Undoes undo e f
 
--- the entry can be undone in the forest g
+-- the entry can be used to undo its edit in the forest g
 abbrev pub CanUndo : {A : Type 0} → Undo A → ForestData → Type 0
 CanUndo undo g = (f : ForestData) × Undoes undo g f
 
--- all entries of the log can be undone in the forest g
+-- all entries of the log can be used to undo their edits in the forest g, beginning with the last entry
 abbrev pub CanRollBack : {A : Type 0} → List (Undo A) → ForestData → Type 0
 CanRollBack log g = (f : ForestData) × RollsBack log g f
 
@@ -98,7 +98,7 @@ pub record AnswersLogged {A : Type 0} (a : List Row → Answer) (f g : ForestDat
   pub answers : AnswersAs a f g (done_alone x)
   pub logged : IfOk x (λ z. UndoesAny z.1 g f)
 
--- the same for a call that returns the entry for the undo log only if `logged` is true. If `logged` is true, the call may run out of memory whatever the edit gives for the table. If `logged` is false, the call runs out of memory only if `takes` is true
+-- a similar definition for a call that need not return a right entry for the undo log if `logged` is false. If `logged` is true, undoing the edit with the returned entry results in f, but the result x need only be right as Makes defines it: the call may run out of memory whatever the edit gives for the table. If `logged` is false, the result x is right as AnswersAs defines it, and the call runs out of memory only if `takes` is true
 pub record AnswersLoggedIf {A : Type 0} (logged takes : Bool) (a : List Row → Answer) (f g : ForestData) (x : Result (Done × Option (Undo A)) EditFault) : Type 0 where
   pub makes : Makes a f g (done_alone x)
   pub exact : logged ≡ false → AnswersAs a f g (done_alone x)

@@ -1,4 +1,4 @@
--- Which forest results when an addition or a move is undone. In all definitions, the step is made in the forest g and results in the forest f.
+-- Which forest results when an addition or a move is undone. Undoing has several steps. In each definition, g is the forest before the step, and f is the forest after the step.
 use Rattle.std.specs.Prelude.{◌≡◌, true, Option, Some, None, Vec, vec_capacity}
 use Rattle.crush_units.specs.declared.id.ItemId.{ItemId}
 use Rattle.crush_model.specs.Forest.{ForestData, rows_of}
@@ -11,12 +11,12 @@ use Rattle.crush_hierarchy.specs.Back.{item_moved_back, CanMoveBack}
 use Rattle.crush_apply.specs.declared.addition.Addition.{Addition}
 use Rattle.crush_apply.specs.declared.old_stand.OldStand.{OldStand}
 
--- if the items of the place p of the forest g are moved to the vector `items`, the result is f
+-- if the items of the place p of the forest g are moved to the empty vector `items`, the result is f
 pub record GetsMemory {A : Type 0} (p : Place) (items : Vec (Node A) A) (g f : ForestData) : Type 0 where
   pub can : CanReplaceBuffer p items g
   pub is : f ≡ forest_with_capacity p (vec_capacity items) g
 
--- if the item i is removed from the forest g, the result is f
+-- if the item i, with everything below it, is removed from the forest g, the result is f
 pub record Leaves (i : ItemId) (g f : ForestData) : Type 0 where
   pub there : is_there (rows_of g) i ≡ true
   pub is : f ≡ forest_without i g
@@ -48,11 +48,11 @@ pub record Returns {A : Type 0} (s : OldStand) (c : Addition A) (g f : ForestDat
   pub back : GoesBack s g stood
   pub goes : UndoesAddition c stood f
 
--- the place p of the forest g can get the vector m, if there is one
+-- if there is a vector m, the items of the place p of the forest g can be moved to it
 abbrev pub CanGetMemory : {A : Type 0} → Place → Option (Vec (Node A) A) → ForestData → Type 0
 CanGetMemory p m g = (f : ForestData) × GetsAnyMemory p m g f
 
--- the item i, if there is one, can be removed from the forest g
+-- if there is an item i, it can be removed from the forest g
 abbrev pub CanLeave : Option ItemId → ForestData → Type 0
 CanLeave i g = (f : ForestData) × LeavesAny i g f
 

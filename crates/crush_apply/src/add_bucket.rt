@@ -1,4 +1,4 @@
-//! Applies `AddBucket`: creates an empty bucket as a root.
+//! Applies the edit `AddBucket`: creates an empty bucket, which becomes the last of the roots.
 
 ghost use Rattle.std.specs.Prelude.{◌≡◌, List, Some, [], ◌∷◌, IfOk, IfErr};
 ghost use Rattle.crush_model.specs.Table.{Row, free_ids};
@@ -47,7 +47,7 @@ fn check_add<A: Allocator>(
     Ok(number)
 }
 
-/// Returns the unused bucket id that is nearest to 0.
+/// Returns the bucket id nearest to 0 that is used neither as the id of a bucket nor as a class id.
 fn first_free<A: Allocator>(hierarchy: &Hierarchy<A>) -> BucketId
     ensures { (t : List Row) → Stands hierarchy.now t → free_ids t 1 ≡ result ∷ [] }
 {

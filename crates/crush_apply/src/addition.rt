@@ -1,4 +1,5 @@
 //! Adds a new item to a place of the hierarchy, and removes the item again when a batch is undone.
+//! A *place* is a bucket, the list of roots, or the list of unplaced devices.
 
 ghost use Rattle.std.specs.Prelude.{◌≡◌, ◌∷◌, [], IfOk};
 ghost use Rattle.crush_model.specs.Forest.{ForestData};
@@ -11,18 +12,19 @@ use crush_tree::{Node, Place};
 use crush_units::ItemId;
 use std::alloc::{AllocError, Allocator};
 
-/// What was added to a place: an item at the end, or only room for one more item.
+/// What was added to a place: an item at the end of the place, or only room for one more item.
 #[derive(Drop)]
 pub(crate) struct Addition<A: Allocator> {
     pub(crate) place: Place,
     /// The item, or `None` if only room was added.
     pub(crate) item: Option<ItemId>,
-    /// The old vector of the place, if it was full and a larger vector has replaced it. Otherwise
-    /// `None`.
+    /// The old vector of the place, if the place was full and a larger vector has replaced the old
+    /// one. Otherwise `None`.
     pub(crate) memory: Option<Vec<Node<A>, A>>,
 }
 
-/// Adds a new item at the end of a place. After an error the hierarchy is unchanged.
+/// Adds a new item, with everything below it, at the end of a place. Returns an error if memory
+/// runs out; then the hierarchy is unchanged.
 pub(crate) fn add_logged<A: Allocator + Clone>(
     hierarchy: &mut Hierarchy<A>,
     place: Place,
@@ -46,8 +48,8 @@ pub(crate) fn add_logged<A: Allocator + Clone>(
     })
 }
 
-/// Undoes an addition: removes the item if one was added, and gives the place its old vector back
-/// if the vector was replaced.
+/// Undoes an addition: first removes the item if an item was added, and then gives the place its
+/// old vector back if the vector was replaced.
 pub(crate) fn undo_addition<A: Allocator>(hierarchy: &mut Hierarchy<A>, addition: Addition<A>)
     requires { CanUndoAddition addition hierarchy.old }
     ensures { (f : ForestData) → UndoesAddition addition hierarchy.old f → hierarchy.new ≡ f }

@@ -1,4 +1,5 @@
-//! Applies one edit, by calling the function for the kind of the edit.
+//! Applies one edit, with the function for the kind of the edit. These functions are in other
+//! modules, for example `place` and `swap`.
 
 ghost use Rattle.std.specs.Prelude.{◌≡◌, List, IfOk, OnErr, true, false};
 ghost use Rattle.crush_model.specs.Table.{Row};
@@ -28,16 +29,18 @@ use crush_edits::{Done, Edit, EditFault, Setting};
 use crush_hierarchy::Hierarchy;
 use std::alloc::Allocator;
 
-/// Applies an edit to a hierarchy, and returns what the edit has done.
+/// Applies an edit to a hierarchy. Returns whether the edit has changed the hierarchy, and how many
+/// buckets the edit has created.
 ///
-/// The setting must fit the hierarchy: the setting is valid and has the types of all buckets, and
-/// the hierarchy has all buckets that the setting's rules take. The setting still fits afterwards.
+/// The setting (types, tunables and rules) must fit the hierarchy: the setting is valid and has the
+/// types of all buckets, and the hierarchy has all buckets that the setting's rules take. The
+/// setting still fits afterwards.
 ///
-/// Fails with `Refused` if there is a reason to refuse the edit; if there are several reasons, the
-/// error has the one with the lowest number. Fails with `OutOfMemory` only if there is no reason to
-/// refuse the edit and the edit would change something, and never for `Reweight`,
-/// `ReweightSubtree`, `Swap`, `Remove` and `RemoveClass`. The hierarchy is unchanged after an
-/// error, and if the edit changes nothing.
+/// Fails with `Refused` if there is a reason to refuse the edit. If there are several reasons, the
+/// error has the reason with the lowest number (`Refusal::number`). Fails with `OutOfMemory` only
+/// if there is no reason to refuse the edit and the edit would change something. The edits
+/// `Reweight`, `ReweightSubtree`, `Swap`, `Remove` and `RemoveClass` never fail with `OutOfMemory`.
+/// The hierarchy is unchanged after an error, and also after an edit that changes nothing.
 pub fn apply_edit<A: Allocator + Clone>(
     hierarchy: &mut Hierarchy<A>,
     setting: &Setting,
@@ -62,10 +65,11 @@ pub fn apply_edit<A: Allocator + Clone>(
     done_alone(make(hierarchy, setting, requested, false))
 }
 
-/// Gives a proof what the types of an edit's parts guarantee: the ids are in range, and the names
-/// are valid.
+/// Gives a proof the facts that the types of an edit's parts guarantee: the id of a device is in
+/// range, a location is valid, and each name or class that the edit gives to an item is a valid
+/// name.
 ///
-/// The function reads each part once, and changes nothing.
+/// The function reads these parts, and changes nothing.
 pub(crate) fn recall_forms(requested: &Edit)
     ensures { IsEdit requested.now }
 {
@@ -99,8 +103,9 @@ pub(crate) fn recall_forms(requested: &Edit)
 /// Applies an edit. Returns what the edit has done, and an entry for the undo log that can undo the
 /// edit.
 ///
-/// If `logged` is false, the entry may be missing. If `logged` is true, the call may fail because
-/// there is no memory for the entry, even if the edit would be refused.
+/// The entry may be missing if the edit has changed nothing, or if `logged` is false. If `logged`
+/// is true, the call may fail because no memory can be allocated for the entry, even if the edit
+/// would be refused.
 pub(crate) fn make<A: Allocator + Clone>(
     hierarchy: &mut Hierarchy<A>,
     setting: &Setting,

@@ -21,16 +21,17 @@ use crush_edits::{BatchFault, Done, Dones, Edit, EditFault, Setting};
 use crush_hierarchy::Hierarchy;
 use std::alloc::{AllocError, Allocator};
 
-/// Applies all edits of a batch, or none of them, and returns what they have done.
+/// Applies all edits of a batch, or none of them. Returns how many edits the batch has, how many of
+/// them have changed the hierarchy, and how many buckets they have created.
 ///
 /// There must be at most 65,536 edits, and the setting must fit the hierarchy, as for `apply_edit`.
 /// The edits are applied one after the other: each edit is applied to the hierarchy that the edits
 /// before it have changed.
 ///
-/// If an edit is refused, fails with `Refused`, which has the index of the first refused edit, from
-/// 0, and the refusal. If memory runs out before an edit is refused, fails with `OutOfMemory`. In
-/// this case no refusal is reported, even if the edit for which memory ran out, or a later edit,
-/// would be refused. The hierarchy is unchanged after an error.
+/// If an edit is refused, the call fails with `Refused`, which has the index of this edit in the
+/// batch, from 0, and the refusal. If memory runs out before an edit is refused, the call fails
+/// with `OutOfMemory`. In this case no refusal is reported, even if the edit for which memory ran
+/// out, or a later edit, would be refused. The hierarchy is unchanged after an error.
 ///
 /// The edits change the hierarchy itself and not a copy. If an edit fails, the edits before it are
 /// undone, in the opposite order.
@@ -76,10 +77,12 @@ fn new_log<A: Allocator + Clone>(
     Vec::with_capacity(hierarchy.allocator().clone()?, room)
 }
 
-/// Applies the edits in order until one fails. For each edit, appends an entry to the log that can
-/// undo the edit.
+/// Applies the edits in order until one fails. After each edit that has an entry for the log,
+/// appends this entry to the log, as long as the log has room. An entry can undo its edit. An edit
+/// that has changed nothing may have no entry.
 ///
-/// The last edit isn't logged: no other edit can fail after it, so it never has to be undone.
+/// The log needs room for the entries of all edits except the last. The last edit never has to be
+/// undone, because no other edit can fail after it.
 fn make_all<A: Allocator + Clone>(
     hierarchy: &mut Hierarchy<A>,
     setting: &Setting,
@@ -116,7 +119,9 @@ fn make_all<A: Allocator + Clone>(
     Ok(dones)
 }
 
-/// Applies one edit. If the log has room, appends an entry to it that can undo the edit.
+/// Applies one edit. If the log has room, appends the entry that can undo the edit to the log. An
+/// edit that has changed nothing may have no entry. After an error, the hierarchy and the log are
+/// unchanged.
 fn apply_logged<A: Allocator + Clone>(
     hierarchy: &mut Hierarchy<A>,
     setting: &Setting,
@@ -145,7 +150,8 @@ fn apply_logged<A: Allocator + Clone>(
     Ok(done)
 }
 
-/// Appends an entry to the log, if there is an entry and the log has room for it. Never allocates.
+/// Appends an entry to the log, if there is an entry and the log has room for the entry. Never
+/// allocates.
 fn log_undo<A: Allocator>(log: &mut Vec<Undo<A>, A>, undo: Option<Undo<A>>)
     ensures items { vec_len log.old < vec_capacity log.old
         → log.new.items ≡ log.old.items ++ as_list undo }
@@ -160,8 +166,8 @@ fn log_undo<A: Allocator>(log: &mut Vec<Undo<A>, A>, undo: Option<Undo<A>>)
     }
 }
 
-/// Returns the counts of a batch after one more edit. The contract requires bounds on the counts,
-/// so that adding to them can't overflow.
+/// Returns the counts of a batch after one more edit. The contract requires that the counts are
+/// small enough, so that no addition overflows.
 fn with_done(dones: Dones, done: Done) -> Dones
     requires edits { dones.edits < MOST_EDITS }
     requires changed { dones.changed ≤ dones.edits }

@@ -1,4 +1,4 @@
-//! Applies `SetClass` and `RemoveClass`, which change the class of a device.
+//! Applies the edits `SetClass` and `RemoveClass`, which change the class of a device.
 
 ghost use Rattle.std.specs.Prelude.{◌≡◌, ◌≢◌, List, Some, IfOk, IfErr, Err};
 ghost use Rattle.crush_units.specs.declared.id.ItemId.TheVariants.{Device as DeviceItem};

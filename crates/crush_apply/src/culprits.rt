@@ -15,9 +15,10 @@ use std::alloc::{Allocator, Global};
 
 /// Returns the name that a refusal is about. The name is one of the names in the refused edit.
 ///
-/// If the name of a type, of a bucket or of another item is at fault, the result is this name. If
-/// no name is at fault, the result is the name of the item that the edit is for. `hierarchy` and
-/// `setting` must be those to which the edit couldn't be applied.
+/// If the refusal is about a type name, a bucket name in a location, only the second name of a
+/// swap, or the new name of a rename, the result is this name. Otherwise the result is the name of
+/// the item that the edit is for; for a swap, this is the first name. `hierarchy` and `setting`
+/// must be the values for which the edit was refused.
 pub fn culprit<'a, A: Allocator>(
     hierarchy: &Hierarchy<A>,
     setting: &Setting,
@@ -42,7 +43,8 @@ pub fn culprit<'a, A: Allocator>(
     }
 }
 
-/// Returns the culprit of an edit that has a location.
+/// Returns the culprit of an edit that has a location: a type name or a bucket name in the location
+/// if this name is at fault, and otherwise the name of the item.
 fn put_culprit<'a, A: Allocator>(
     hierarchy: &Hierarchy<A>,
     setting: &Setting,
@@ -101,8 +103,8 @@ fn is_device<A: Allocator>(hierarchy: &Hierarchy<A>, name: &Name<Global>) -> boo
     }
 }
 
-/// Returns the culprit of an edit that adds a bucket: the name of the bucket's type if the type is
-/// unknown or is type 0, and otherwise the name of the bucket.
+/// Returns the culprit of an edit that adds a bucket: the name of the bucket's type if the refusal
+/// is `NoSuchType` or `WrongType`, and otherwise the name of the bucket.
 fn bucket_culprit<'a>(
     name: &'a Name<Global>,
     kind: &'a Name<Global>,

@@ -1,6 +1,7 @@
-//! Applies edits to the hierarchy of a map. [`apply_edit`] applies one edit. [`apply_batch`]
-//! applies all edits of a batch, or none of them. [`culprit`] finds the name that a refusal is
-//! about. `crush_map` calls these three functions.
+//! Applies edits to the hierarchy of a map, which is the nested buckets of the map with their
+//! index. [`apply_edit`] applies one edit. [`apply_batch`] applies all edits of a batch, or none of
+//! them. [`culprit`] finds the name that a refusal is about. `crush_map` calls these three
+//! functions.
 //!
 //! `crush_edits` defines what an edit does to the table of a map; read its `specs/Edit.antt` first.
 //! `specs/Answered.antt` and `specs/Batched.antt` then say how the result of a call follows from

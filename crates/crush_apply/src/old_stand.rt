@@ -18,10 +18,10 @@ pub(crate) struct OldStand {
     weight: Weight,
 }
 
-/// Moves an item to the end of a bucket, and returns the place, the position and the weight that
-/// the item had before.
+/// Moves an item, with everything below it, to the end of a bucket. Returns the place, the position
+/// and the weight that the item had before.
 ///
-/// The bucket must have room, so that nothing is allocated. If `weight` is `Some` and the item is a
+/// The bucket must have room; the call allocates nothing. If `weight` is `Some` and the item is a
 /// device, the device gets this weight.
 pub(crate) fn move_into<A: Allocator>(
     hierarchy: &mut Hierarchy<A>,

@@ -1,4 +1,5 @@
-//! Applies the edit that puts a device at a location, in each of its three ways.
+//! Applies the edit `Place`, which puts a device at a location. The three values of [`Placing`] say
+//! what the edit does with a device that is already in a bucket.
 
 ghost use Rattle.std.specs.Prelude.{◌≡◌, ◌≤◌, List};
 ghost use Rattle.crush_units.specs.declared.limits.TheConstants.{HEAVIEST_DEVICE};
@@ -21,7 +22,8 @@ use crush_hierarchy::Hierarchy;
 use crush_units::{DeviceId, ItemId, Weight};
 use std::alloc::Allocator;
 
-/// Applies `Place`. `how` says what the edit does with a device that is already in a bucket.
+/// Applies the edit `Place` to the device `arrival`. `how` says what the edit does with a device
+/// that is already in a bucket.
 pub(crate) fn place<A: Allocator + Clone>(
     hierarchy: &mut Hierarchy<A>,
     setting: &Setting,
@@ -59,7 +61,8 @@ fn is_barred<A: Allocator>(hierarchy: &Hierarchy<A>, how: Placing, device: Devic
 }
 
 /// Applies the edit to a device that is already in the location's bucket of the lowest type. The
-/// device isn't moved; `Update` may change its weight.
+/// device isn't moved. If `how` is `Update`, the edit sets the device's weight, as the edit
+/// `Reweight` does.
 fn stay<A: Allocator>(
     hierarchy: &mut Hierarchy<A>,
     how: Placing,
@@ -79,7 +82,7 @@ fn stay<A: Allocator>(
     Ok((done, None))
 }
 
-/// Returns the weight that the device has after it is put at the location.
+/// Returns the weight that the device gets if the edit puts it into another bucket.
 fn coming_weight<A: Allocator>(
     hierarchy: &Hierarchy<A>,
     how: Placing,

@@ -1,4 +1,4 @@
-//! Applies `Remove`: removes a device, or an empty bucket.
+//! Applies the edit `Remove`: removes a device, or an empty bucket that no rule takes.
 
 ghost use Rattle.std.specs.Prelude.{◌≡◌, List, Some, IfOk, IfErr, true, false};
 ghost use Rattle.crush_units.specs.declared.id.ItemId.TheVariants.{Bucket};
@@ -58,8 +58,8 @@ fn check_remove<A: Allocator>(
     Ok(id)
 }
 
-/// Removes the item. If `logged` is true, the item is kept in the entry for the undo log, so that
-/// it can be put back.
+/// Removes the item that has the name. If `logged` is true, the entry for the undo log keeps the
+/// item, so that the item can be put back. Memory is allocated only for this entry.
 pub(crate) fn remove<A: Allocator>(
     hierarchy: &mut Hierarchy<A>,
     setting: &Setting,

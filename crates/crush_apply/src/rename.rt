@@ -1,4 +1,4 @@
-//! Applies `Rename`: gives a bucket another name.
+//! Applies the edit `Rename`: gives a bucket another name.
 
 ghost use Rattle.std.specs.Prelude.{◌≡◌, List, Some, IfOk, IfErr};
 ghost use Rattle.crush_model.specs.Table.{Row};

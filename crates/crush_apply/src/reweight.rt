@@ -1,4 +1,4 @@
-//! Applies `Reweight`: sets the weight of one device.
+//! Applies the edit `Reweight`: sets the weight of one device.
 
 ghost use Rattle.std.specs.Prelude.{◌≡◌, ◌≢◌, List, Some, IfOk, IfErr, OnOk, Err, false};
 ghost use Rattle.crush_model.specs.Table.{Row, id_named};
@@ -17,8 +17,9 @@ use crush_hierarchy::Hierarchy;
 use crush_units::{DeviceId, ItemId, Name, Weight};
 use std::alloc::{Allocator, Global};
 
-/// Makes the tests that `Reweight` and `ReweightSubtree` have in common. Returns the item that has
-/// the name. If a test fails, returns the refusal.
+/// Makes the tests that `Reweight` and `ReweightSubtree` have in common: the weight must not be too
+/// large for a device, and an item must have the name. Returns this item. If a test fails, returns
+/// the refusal.
 pub(crate) fn item_to_weigh<A: Allocator>(
     hierarchy: &Hierarchy<A>,
     name: &Name<Global>,

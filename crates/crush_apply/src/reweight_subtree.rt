@@ -1,4 +1,4 @@
-//! Applies `ReweightSubtree`: sets the weight of all devices below a bucket.
+//! Applies the edit `ReweightSubtree`: sets the weight of all devices below a bucket.
 
 ghost use Rattle.std.specs.Prelude.{◌≡◌, ℕ, List, Some, IfOk, IfErr, OnErr, true, false};
 ghost use Rattle.crush_units.specs.declared.id.ItemId.TheVariants.{Bucket};
@@ -40,8 +40,8 @@ fn check_subtree<A: Allocator>(
     Ok(bucket)
 }
 
-/// Sets the weights. If `logged` is true, the old weights are kept in the entry for the undo log,
-/// for which memory is allocated.
+/// Sets the weight of all devices below the bucket that has the name. If `logged` is true, the
+/// entry for the undo log keeps the old weights. Memory is allocated only for this entry.
 pub(crate) fn reweight_subtree<A: Allocator + Clone>(
     hierarchy: &mut Hierarchy<A>,
     name: &Name<Global>,

@@ -3,10 +3,12 @@
 //!
 //! Each pair of a location has a type and the name of a bucket. The pairs, sorted by the numbers of
 //! their types, lowest first, are the *stops* of the *route*. The route ends at the first stop
-//! whose name is in the map. A bucket is created for each stop before this one, inside the bucket
-//! of the next stop, and the item is put into the bucket of the first stop. `stops` and
-//! `destination` find the stop that ends the route. `refusals` and `room` test whether the item can
-//! be put at the location. `arrive`, `new_buckets` and `put` then put the item there.
+//! whose name is in the map. For each stop before the stop that ends the route, a bucket is
+//! created, inside the bucket of the next stop. If no stop's name is in the map, a bucket is
+//! created for each stop, and the bucket of the last stop becomes a root. The item is then put into
+//! the bucket of the first stop. `stops` and `destination` find the stop that ends the route.
+//! `refusals` and `room` test whether the item can be put at the location. `arrive`, `new_buckets`
+//! and `put` then put the item there.
 
 mod arrive;
 mod culprit;

@@ -1,4 +1,4 @@
-//! Applies `Swap`: two buckets exchange their items and their names.
+//! Applies the edit `Swap`: two buckets exchange their items and their names.
 
 ghost use Rattle.std.specs.Prelude.{◌≡◌, ◌≢◌, List, Some, IfOk, IfErr, Err};
 ghost use Rattle.crush_model.specs.Table.{Row};
@@ -15,7 +15,7 @@ use crush_hierarchy::Hierarchy;
 use crush_units::{BucketId, ItemId, Name};
 use std::alloc::{Allocator, Global};
 
-/// Returns the two buckets. If the swap must be refused, returns the refusal.
+/// Returns the two buckets that have the names. If the swap must be refused, returns the refusal.
 fn check_swap<A: Allocator>(
     hierarchy: &Hierarchy<A>,
     a: &Name<Global>,

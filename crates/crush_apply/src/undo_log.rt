@@ -12,8 +12,10 @@ use crush_tree::WeightRun;
 use crush_units::{BucketId, DeviceId, ItemId, Name, Weight};
 use std::alloc::Allocator;
 
-/// An entry of the undo log, which says how one edit is undone. Undoing allocates no memory, so it
-/// can't fail.
+/// An entry of the undo log, which says how one edit is undone. Undoing an edit can't fail. Only to
+/// restore a removed item or an old name, the index may need more memory. The index then first
+/// tries to allocate this memory, and if this fails, it uses memory that was allocated when the
+/// item was removed or renamed.
 #[derive(Drop)]
 pub(crate) enum Undo<A: Allocator> {
     /// The device gets back its old weight.
@@ -45,12 +47,14 @@ pub(crate) enum Undo<A: Allocator> {
         bucket: BucketId,
         old: OldName<A>,
     },
-    /// The item that was added is removed again, together with the new buckets around it.
+    /// The item that was added is removed again, together with the new buckets that were created
+    /// for it. The place gets back its old vector if a larger one has replaced it.
     Arrived {
         addition: Addition<A>,
     },
-    /// The item that was moved is put back. Then the new buckets, or the room, that were added for
-    /// the move are removed.
+    /// The item that was moved is put back to its old place and position, with its old weight. Then
+    /// the addition that was made for the move is undone: new buckets are removed, and if the
+    /// vector of a place was replaced, the place gets back its old vector.
     Moved {
         old_stand: OldStand,
         addition: Addition<A>,

@@ -1,5 +1,6 @@
-//! Tests whether the map has room for an item at its destination and whether all sums stay in
-//! range, and then puts the item there.
+//! Makes the last two tests of an edit that puts an item at a location, and then puts the item
+//! there. The tests are: whether the map would have too many devices or buckets, and whether all
+//! sums stay in range.
 
 ghost use Rattle.std.specs.Prelude.{◌≡◌, List, None, true, false, IfOk};
 ghost use Rattle.crush_units.specs.declared.id.ItemId.TheVariants.{Device};
@@ -50,11 +51,11 @@ pub(crate) fn place_item<A: Allocator + Clone>(
     Ok((done_at(to), Some(undo)))
 }
 
-/// Puts a device at the destination with this weight. Returns a refusal if the map would have too
-/// many devices or buckets, or if a sum would be too large.
+/// Puts the device `arrival` at the destination, with the weight of `arrival`. Returns a refusal if
+/// the map would have too many devices or buckets, or if a sum would be too large.
 ///
-/// If the map has the device, the device is moved and keeps its class. Otherwise the device is
-/// created without a class.
+/// If the map already has the device, the device is moved and keeps its class. Otherwise the device
+/// is created without a class.
 pub(crate) fn place_device<A: Allocator + Clone>(
     hierarchy: &mut Hierarchy<A>,
     arrival: &NewDevice<'_>,

@@ -16,9 +16,10 @@ use crush_hierarchy::Hierarchy;
 use crush_units::Name;
 use std::alloc::{Allocator, Global};
 
-/// Returns the name that makes a location bad. This is the first type name that is the name of type
-/// 0 or that occurs again in a later pair. If there is no such type name, it is the first bucket
-/// name that occurs again in a later pair.
+/// Returns the name for which a location is refused with `BadLocation`. This is the first type name
+/// that is the name of type 0 or that occurs again in a later pair. If no type name is wrong in
+/// this way, it is the first bucket name that occurs again in a later pair. If no name is wrong,
+/// returns `None`.
 pub(crate) fn bad_name<'a>(setting: &Setting, at: &'a Location) -> Option<&'a Name<Global>>
     ensures { option_map (λ name. name.now) result ≡ bad_name setting.now at.now }
 {
@@ -61,7 +62,8 @@ fn repeated_bucket(pairs: &[Pair]) -> Option<&Name<Global>>
     None
 }
 
-/// Returns the first type name of the location that isn't the name of a type in the setting.
+/// Returns the first type name of the location that isn't the name of a type in the setting, or
+/// `None` if the setting has all types.
 pub(crate) fn unknown_type<'a>(setting: &Setting, at: &'a Location) -> Option<&'a Name<Global>>
     ensures { option_map (λ name. name.now) result ≡ unknown_type setting.now at.now }
 {
@@ -74,7 +76,8 @@ pub(crate) fn unknown_type<'a>(setting: &Setting, at: &'a Location) -> Option<&'
     None
 }
 
-/// Returns the first name of the route that an item of the map has: this item ends the route.
+/// Returns the name of the first stop of the route whose name is the name of an item of the map.
+/// This item ends the route. Returns `None` if the map has no item with the name of a stop.
 pub(crate) fn end_name<'a, A: Allocator>(
     hierarchy: &Hierarchy<A>,
     setting: &Setting,

@@ -72,10 +72,11 @@ fn new_bucket<A: Allocator + Clone>(
     empty_bucket(alloc, id, stop.kind, &pair.name)
 }
 
-/// Returns the new buckets of the stops as one node.
+/// Creates a bucket for each stop, and returns these buckets as one node.
 ///
 /// The bucket of each stop is in the bucket of the next stop. The bucket of the first stop is
-/// empty. `ids` has the ids of the buckets, in the order of the stops.
+/// empty, and has memory for one item. `ids` has the ids of the buckets, in the order of the stops.
+/// Returns an error if memory runs out.
 pub(crate) fn new_buckets<A: Allocator + Clone>(
     alloc: &A,
     ids: &[BucketId],
@@ -92,9 +93,9 @@ pub(crate) fn new_buckets<A: Allocator + Clone>(
     in_new_buckets(alloc, &ids[1..], at, &stops[1..], lowest)
 }
 
-/// Puts the item into the new bucket of the first stop, and the bucket of each stop into the bucket
-/// of the next stop. Returns the bucket of the last stop, which has all the others in it. If there
-/// are no stops, returns the item itself.
+/// Creates a bucket for each stop. Puts the item into the bucket of the first stop, and the bucket
+/// of each stop into the bucket of the next stop. Returns the bucket of the last stop, with the
+/// item and all other new buckets in it. If there are no stops, returns the item itself.
 pub(crate) fn in_new_buckets<A: Allocator + Clone>(
     alloc: &A,
     ids: &[BucketId],

@@ -1,5 +1,5 @@
-//! Tests that can lead to a refusal: tests of a location, of a device that is put there, and of the
-//! item that ends a route.
+//! Tests that can lead to a refusal: the tests of a location, of a device that is to be put at a
+//! location, and of the item that ends a route.
 
 ghost use Rattle.std.specs.Prelude.{◌≡◌, ◌==◌, List, None, Some, IfOk, IfErr, OnOk, map, bytes_eq, not};
 ghost use Rattle.std.specs.List.{list_any};
@@ -18,8 +18,9 @@ use crush_hierarchy::Hierarchy;
 use crush_units::{BucketId, DeviceId, ItemId, Name, TypeId};
 use std::alloc::{Allocator, Global};
 
-/// Returns a refusal if the location is wrong whatever items the map has: for example, if it names
-/// a type twice.
+/// Makes the tests of a location that don't depend on the items of the map. Returns a refusal if
+/// the location has a type name or a bucket name twice, has the name of type 0, has the name of a
+/// type that the setting doesn't have, or has no pairs.
 pub(crate) fn check_location(setting: &Setting, at: &Location) -> Result<(), Refusal>
     ensures passes { OnOk result (first_refusal (location_tests setting.now at.now) ≡ None) }
     ensures refused { IfErr result
@@ -38,8 +39,8 @@ pub(crate) fn check_location(setting: &Setting, at: &Location) -> Result<(), Ref
     Ok(())
 }
 
-/// Makes those tests for an edit that puts a device which come before the tests of the route.
-/// Returns a refusal if a test fails.
+/// Makes the first tests of the edit `Place`: the tests of the device's name, of the location
+/// without its route, and of the weight. Returns a refusal if a test fails.
 pub(crate) fn check_device<A: Allocator>(
     hierarchy: &Hierarchy<A>,
     setting: &Setting,
@@ -152,7 +153,7 @@ fn has_unknown_type(setting: &Setting, pairs: &[Pair]) -> bool
         .any(|pair| setting.kind_number(pair.kind.as_bytes()).is_none())
 }
 
-/// Whether another item has the name, or the device has another name.
+/// Whether an item other than the device has the name, or the map has the device with another name.
 fn is_taken<A: Allocator>(hierarchy: &Hierarchy<A>, device: DeviceId, name: &Name<Global>) -> bool
     ensures { (t : List Row) → Stands hierarchy.now t
         → result ≡ is_taken t (Device device) name.now }

@@ -19,7 +19,8 @@ use crush_units::limits::{MOST_BUCKETS, MOST_DEVICES};
 use crush_units::{DeviceId, ItemId, Weight};
 use std::alloc::Allocator;
 
-/// Whether there would be too many buckets after an item of the map is moved to the destination.
+/// Whether the map would have too many buckets after an item of the map is moved to the
+/// destination.
 pub(crate) fn lacks_room<A: Allocator>(hierarchy: &Hierarchy<A>, to: &Destination) -> bool
     ensures { (t : List Row) (r : Row) → Stands hierarchy.now t → Leads t to.now
         → row_of t r.id ≡ Some r → (w : ℕ)
@@ -29,7 +30,8 @@ pub(crate) fn lacks_room<A: Allocator>(hierarchy: &Hierarchy<A>, to: &Destinatio
     hierarchy.counts().buckets as usize + to.fresh() > MOST_BUCKETS as usize
 }
 
-/// Whether there would be too many devices or buckets after a device is created at the destination.
+/// Whether the map would have too many devices or buckets after a device is created at the
+/// destination.
 pub(crate) fn lacks_room_for_new<A: Allocator>(hierarchy: &Hierarchy<A>, to: &Destination) -> bool
     ensures { (t : List Row) (d : LeafData) → Stands hierarchy.now t → Leads t to.now
         → is_there t (Device d.id) ≡ false
@@ -41,7 +43,7 @@ pub(crate) fn lacks_room_for_new<A: Allocator>(hierarchy: &Hierarchy<A>, to: &De
     counts.devices >= MOST_DEVICES || counts.buckets as usize + fresh > MOST_BUCKETS as usize
 }
 
-/// Whether sums stay in range if an item is moved to the destination.
+/// Whether all sums stay in range if an item is moved to the destination.
 pub(crate) fn fits_put_item<A: Allocator>(
     hierarchy: &Hierarchy<A>,
     id: ItemId,
@@ -58,7 +60,7 @@ pub(crate) fn fits_put_item<A: Allocator>(
     hierarchy.fits_move(*id, to.place(), None)
 }
 
-/// Whether sums stay in range if a device is moved to the destination and gets this weight.
+/// Whether all sums stay in range if a device is moved to the destination and gets this weight.
 pub(crate) fn fits_put_device<A: Allocator>(
     hierarchy: &Hierarchy<A>,
     device: DeviceId,
@@ -76,7 +78,7 @@ pub(crate) fn fits_put_device<A: Allocator>(
     hierarchy.fits_move(ItemId::Device(device), to.place(), Some(weight))
 }
 
-/// Whether sums stay in range if a device of this weight is created at the destination.
+/// Whether all sums stay in range if a device of this weight is created at the destination.
 pub(crate) fn fits_put_new<A: Allocator>(
     hierarchy: &Hierarchy<A>,
     weight: Weight,

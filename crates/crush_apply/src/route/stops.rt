@@ -1,4 +1,5 @@
-//! The stops of a route, and the search for the stop that ends the route.
+//! The stops of a route, and the search for the stop that ends the route. The module `route`
+//! explains these words.
 
 ghost use Rattle.std.specs.Prelude.{◌≡◌, ◌+◌, ◌<◌, ◌≤◌, List, Some, All, IfOk, IfErr, length};
 ghost use Rattle.arrayvec.specs.ArrayVec.{array_vec_len};
@@ -82,7 +83,8 @@ pub(crate) fn route_of(setting: &Setting, at: &Location) -> Route
     Route { stops }
 }
 
-/// Inserts a stop before the first stop whose type number is at least its own.
+/// Inserts the stop `stop` before the first stop whose type number is at least that of `stop`, or
+/// at the end if there is no such stop.
 fn put_stop(stops: &mut ArrayVec<Stop, MOST_PAIRS>, stop: Stop)
     requires { array_vec_len stops.old < MOST_PAIRS }
     ensures put { stops.new.items ≡ put_stop stop stops.old.items }
@@ -115,11 +117,11 @@ pub(crate) fn stop_name<'a>(at: &'a Location, stop: &Stop) -> &'a Name<Global>
     &pair.name
 }
 
-/// Finds the stop that ends the route. Returns how many stops come before this stop, and the bucket
-/// that the stop names.
+/// Finds the stop that ends the route, which is the first stop whose name is in the map. Returns
+/// how many stops are before this stop, and the bucket that has this name.
 ///
 /// If no stop's name is in the map, returns the number of all stops and `None`. Returns a refusal
-/// if the name belongs to a device, or to a bucket whose type isn't the stop's type.
+/// if the item that has the name is a device, or a bucket whose type isn't the stop's type.
 pub(crate) fn route_end<A: Allocator>(
     hierarchy: &Hierarchy<A>,
     at: &Location,
@@ -141,7 +143,8 @@ pub(crate) fn route_end<A: Allocator>(
     Ok((stops.len(), None))
 }
 
-/// Returns the name of the first stop whose name is in the map.
+/// Returns the name of the first stop whose name is in the map, or `None` if no stop's name is in
+/// the map.
 pub(crate) fn first_there<'a, A: Allocator>(
     hierarchy: &Hierarchy<A>,
     at: &'a Location,
