@@ -26,7 +26,7 @@ pub record Makes (a : List Row → Answer) (f g : ForestData) (x : Result Done E
   pub refused : (r : Refusal) → x ≡ Err (Refused r) → (t : List Row) → Stands f t → a t ≡ refused r
   pub unchanged : OnErr x (g ≡ f)
 
--- each place has as much room in g as in f
+-- each place has as much room in g as in f: as many further items fit into it without a new allocation
 abbrev pub KeepsRooms : ForestData → ForestData → Type 0
 KeepsRooms f g = (p : Place) → room g p ≡ room f p
 

@@ -1,4 +1,4 @@
--- The destination of a location, which is the end of its route, as contracts see it.
+-- How contracts see the destination of a location, which is the end of the location's route.
 use Rattle.std.specs.Prelude.{◌≡◌, ◌==◌, ℕ, List, [], ◌∷◌, Option, None, Bool, not, length}
 use Rattle.crush_units.specs.declared.id.ItemId.{ItemId}
 use Rattle.crush_units.specs.Id.{is_device_id}
@@ -16,7 +16,7 @@ pub record DestinationData : Type 0 where
   pub fresh : ℕ
   pub receiver : Option ℕ
 
--- the tests of the item i, which ends a route at a stop whose type has the number k: whether the item is a device, and whether the number of its type isn't k
+-- the tests of the item i, which ends a route at a stop whose type has the number k: NotABucket if the item is a device, and WrongType if the number of its type isn't k
 abbrev pub end_item_tests : List Row → ℕ → ItemId → List (Refusal × Bool)
 end_item_tests t k i = (NotABucket, is_device_id i) ∷ ((WrongType, meets (λ n. not (n == k)) (kind_of t i)) ∷ [])
 

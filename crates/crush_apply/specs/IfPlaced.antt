@@ -10,13 +10,13 @@ use Rattle.crush_edits.specs.Edit.{edit}
 use Rattle.crush_edits.specs.Placing.{kept_weight}
 use Rattle.crush_edits.specs.Setting.{SettingData}
 
--- whether the edit refuses the device because the device is already in a bucket
+-- whether the edit is refused because the device is already in a bucket
 abbrev pub is_barred : Placing → List Row → ℕ → Bool
 is_barred Insert t d = is_placed t (Device d)
 is_barred CreateOrMove t d = false
 is_barred Update t d = false
 
--- what the edit gives if the bucket of the first stop already holds the device: no change, or a new weight
+-- what the edit gives if the bucket of the first stop already holds the device: no change, or what Reweight gives
 abbrev pub stay_answer : SettingData → List Row → Placing → List ℕ → ℕ → Answer
 stay_answer s t Insert n w = done false 0 t
 stay_answer s t CreateOrMove n w = done false 0 t

@@ -21,7 +21,7 @@ pub record Leaves (i : ItemId) (g f : ForestData) : Type 0 where
   pub there : is_there (rows_of g) i ≡ true
   pub is : f ≡ forest_without i g
 
--- if an item of the forest g that was moved is put back to its old place and position, with its old weight, the result is f
+-- if an item that was moved is put back in the forest g to its old place and position, with its old weight, the result is f
 pub record GoesBack (s : OldStand) (g f : ForestData) : Type 0 where
   pub can : CanMoveBack s.item s.stand.place s.stand.position (Some s.weight) g
   pub is : f ≡ item_moved_back s.item s.stand.place s.stand.position (Some s.weight) g

@@ -16,7 +16,7 @@ use std::alloc::{AllocError, Allocator};
 #[derive(Drop)]
 pub(crate) struct Addition<A: Allocator> {
     pub(crate) place: Place,
-    /// The item, or `None` if only room was added.
+    /// The id of the item, or `None` if only room was added.
     pub(crate) item: Option<ItemId>,
     /// The old vector of the place, if the place was full and a larger vector has replaced the old
     /// one. Otherwise `None`.

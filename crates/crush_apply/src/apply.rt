@@ -36,11 +36,12 @@ use std::alloc::Allocator;
 /// types of all buckets, and the hierarchy has all buckets that the setting's rules take. The
 /// setting still fits afterwards.
 ///
-/// Fails with `Refused` if there is a reason to refuse the edit. If there are several reasons, the
-/// error has the reason with the lowest number (`Refusal::number`). Fails with `OutOfMemory` only
-/// if there is no reason to refuse the edit and the edit would change something. The edits
-/// `Reweight`, `ReweightSubtree`, `Swap`, `Remove` and `RemoveClass` never fail with `OutOfMemory`.
-/// The hierarchy is unchanged after an error, and also after an edit that changes nothing.
+/// The call fails with `Refused` if there is a reason to refuse the edit. If there are several
+/// reasons, the error has the reason with the lowest number (`Refusal::number`). The call fails
+/// with `OutOfMemory` only if there is no reason to refuse the edit and the edit would change
+/// something. The edits `Reweight`, `ReweightSubtree`, `Swap`, `Remove` and `RemoveClass` never
+/// fail with `OutOfMemory`. The hierarchy is unchanged after an error, and also after an edit that
+/// changes nothing.
 pub fn apply_edit<A: Allocator + Clone>(
     hierarchy: &mut Hierarchy<A>,
     setting: &Setting,

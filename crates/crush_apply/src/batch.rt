@@ -25,8 +25,8 @@ use std::alloc::{AllocError, Allocator};
 /// them have changed the hierarchy, and how many buckets they have created.
 ///
 /// There must be at most 65,536 edits, and the setting must fit the hierarchy, as for `apply_edit`.
-/// The edits are applied one after the other: each edit is applied to the hierarchy that the edits
-/// before it have changed.
+/// The edits are applied one after the other: each edit is applied to the result of the edits
+/// before it.
 ///
 /// If an edit is refused, the call fails with `Refused`, which has the index of this edit in the
 /// batch, from 0, and the refusal. If memory runs out before an edit is refused, the call fails

@@ -1,4 +1,4 @@
-//! The undo log of a batch. Its entries can undo the edits of the batch that were applied.
+//! The undo log of a batch. Each entry of the log can undo one edit of the batch that was applied.
 
 ghost use Rattle.std.specs.Prelude.{◌≡◌};
 ghost use Rattle.crush_model.specs.Forest.{ForestData};

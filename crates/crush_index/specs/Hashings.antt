@@ -1,4 +1,4 @@
--- How an index hashes. Each table of an index keeps the hashing with which the table was created.
+-- How an index hashes. Each hash table of an index keeps the hashing with which it was created.
 use Rattle.std.specs.Prelude.{◌≡◌}
 use Rattle.indexmap.specs.IndexSet.{hasher_of as set_hasher_of}
 use Rattle.crush_index.specs.DenseMapAnswers.{numbered_hashing}
@@ -17,7 +17,7 @@ names_hashing names = names.hashing
 abbrev pub used_hashing : UsedIds → Hashing
 used_hashing used = set_hasher_of used.sparse
 
--- the hashings of the tables of places: one for the numbers of devices, and two for buckets
+-- the hashings of the places: one for the map of devices, and two for the two maps of buckets and slots
 pub record PlacesHashings : Type 0 where
   pub devices : Hashing
   pub buckets : SlotsHashings
@@ -26,7 +26,7 @@ pub record PlacesHashings : Type 0 where
 abbrev pub places_hashings : Places → PlacesHashings
 places_hashings places = record { devices = numbered_hashing places.devices; buckets = slots_hashings places.slots }
 
--- the hashings of all tables of an index
+-- the hashings of all hash tables of an index
 pub record Hashings : Type 0 where
   pub names : Hashing
   pub places : PlacesHashings
@@ -36,10 +36,10 @@ pub record Hashings : Type 0 where
 abbrev pub hashings : Index → Hashings
 hashings index = record { names = names_hashing index.names; places = places_hashings index.places; used = used_hashing index.used }
 
--- each table of the places has the hashing h
+-- each hash table of the places has the hashing h
 abbrev pub ArePlacesHashed : Hashing → Places → Type 0
 ArePlacesHashed h places = places_hashings places ≡ record { devices = h; buckets = record { numbers = h; slots = h } }
 
--- HASHED: each table of the index has the hashing h
+-- HASHED: each hash table of the index has the hashing h
 abbrev pub IsHashed : Hashing → Index → Type 0
 IsHashed h index = hashings index ≡ record { names = h; places = record { devices = h; buckets = record { numbers = h; slots = h } }; used = h }

@@ -31,7 +31,7 @@ pub record Answers : Type 0 where
 abbrev pub answers : Index → Answers
 answers index = record { names = id_answer index.names; places = place_answer index.places; used = used_answer index.used }
 
--- the answers after the row r was added: the name of r has the id of r, the item of r has the place that the parent of r gives, and all ids of r are used
+-- the answers after the row r was added: the name of r has the id of r, the item of r is at the place that the parent of r gives, and all ids that r uses are used
 abbrev pub with_row : Row → Answers → Answers
 with_row r s = record {
   names = λ n. if bytes_eq r.name n then Some r.id else s.names n;

@@ -1,4 +1,4 @@
--- What is needed to restore an item to an index even if memory runs out.
+-- What is needed to put an item back into an index even if memory runs out.
 use Rattle.std.specs.Prelude.{◌≡◌, ℕ, [], ◌∷◌, Option, Bool, true, false, length}
 use Rattle.crush_model.specs.ItemRows.{rows}
 use Rattle.crush_model.specs.Table.{Row, is_device}

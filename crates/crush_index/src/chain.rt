@@ -63,7 +63,7 @@ pub(crate) fn spare<K: Drop, V: Drop>(alloc: Global) -> Result<Spare<K, V>, Allo
 }
 
 impl<K: Drop, V: Copy + Drop> Chain<K, V> {
-    /// Returns the value of the first key that matches, or `None` if none does.
+    /// Returns the value of the first key that matches, or `None` if no key matches.
     pub(crate) fn get<Q: KeyMatch<K>>(&self, lookup: &Q) -> Option<V>
         ensures { result ≡ chain_answer (Q.matches lookup.now) self.now }
     {

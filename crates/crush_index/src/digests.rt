@@ -7,7 +7,8 @@ use std::hash::{BuildHasher, Hasher};
 #[derive(Clone, Copy)]
 pub(crate) struct IdentityHashing;
 
-/// A hasher whose hash is the digest that was written to it last, or 0 if none was written.
+/// A hasher whose hash is the last digest that was written to the hasher, or 0 if no digest was
+/// written.
 #[derive(Clone, Copy)]
 pub(crate) struct IdentityHasher {
     digest: u64,

@@ -14,7 +14,7 @@ use crush_units::{ItemId, Name};
 use indexmap::IndexMap;
 use std::alloc::{AllocError, Global};
 
-/// A table that maps each name to the id of the item that has it.
+/// A table that maps each name to the id of the item that has the name.
 #[derive(Drop)]
 pub(crate) struct Names {
     global: Global,

@@ -1,4 +1,5 @@
-//! The set of used ids: the ids of buckets and their class ids.
+//! The set of used ids: the ids of buckets and their class ids. The *class ids* of a bucket are
+//! further ids of the bucket, which Ceph gives to the bucket for device classes.
 
 ghost use Rattle.std.specs.Prelude.{◌≡◌, ◌+◌, ◌*◌, ◌/◌, ◌≤◌, ◌<◌, ◌==◌, if◌then◌else◌, ℕ, false, OnOk, IfOk, IfSome, IfNone, length, slice_index, nat_eq, true};
 ghost use Rattle.indexmap.specs.IndexSet.{contains, hasher_of};
@@ -112,7 +113,7 @@ impl UsedIds {
     }
 
     /// Returns the lowest unused id that is at least `least`. Returns `None` if all ids from
-    /// `least` to the highest id that a bucket can have are used.
+    /// `least` to 2147483648, the highest id that a bucket can have, are used.
     pub(crate) fn first_free(&self, least: u32) -> Option<u32>
         ensures some { IfSome result (IsFirstFree self.now least) }
         ensures none { IfNone result (AreAllUsed self.now least) }

@@ -27,8 +27,8 @@ use crush_tree::Leaf;
 use crush_units::ItemId;
 use std::alloc::{AllocError, Allocator};
 
-/// Moves an item, with everything below it, to the destination. Returns a refusal if the map would
-/// have too many buckets, or if a sum would be too large.
+/// Moves an item that the map has, with everything below it, to the destination. Returns a refusal
+/// if the map would have too many buckets, or if a sum would be too large.
 pub(crate) fn place_item<A: Allocator + Clone>(
     hierarchy: &mut Hierarchy<A>,
     id: ItemId,

@@ -66,8 +66,8 @@ pub(crate) fn check_device<A: Allocator>(
     Ok(())
 }
 
-/// Tests the item that ends a route. If it is a bucket of the type `kind`, returns this bucket. If
-/// it is a device, or a bucket of another type, returns a refusal.
+/// Tests the item that ends a route. If the item is a bucket of the type `kind`, returns this
+/// bucket. If the item is a device, or a bucket of another type, returns a refusal.
 pub(crate) fn check_end<A: Allocator>(
     hierarchy: &Hierarchy<A>,
     kind: TypeId,

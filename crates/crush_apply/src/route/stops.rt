@@ -95,7 +95,7 @@ fn put_stop(stops: &mut ArrayVec<Stop, MOST_PAIRS>, stop: Stop)
 }
 
 /// Returns the index of the first stop whose type number is at least `kind`, or the number of stops
-/// if there is none.
+/// if there is no such stop.
 fn index_of(stops: &[Stop], kind: TypeId) -> usize
     ensures value { result ≡ position_or_len (λ (q : Stop). nat_le kind q.kind) stops.now }
     ensures within { result ≤ length stops.now }

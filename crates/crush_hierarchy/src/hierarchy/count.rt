@@ -1,6 +1,6 @@
-//! Arithmetic on counts and weights. With these functions, a change updates the numbers of devices
-//! and buckets and the total weight that the hierarchy stores. So only the items that are added,
-//! removed or weighed have to be counted, and not all items of the hierarchy.
+//! Arithmetic on counts and weights. With these functions, a change of the hierarchy updates the
+//! counts (the numbers of devices and buckets) and the total weight that the hierarchy stores. Only
+//! the items that the change adds or removes are counted.
 
 ghost use Rattle.std.specs.Prelude.{◌≡◌, ◌≤◌, ◌+◌, ◌∷◌, []};
 ghost use Rattle.crush_units.specs.declared.limits.TheConstants.{HEAVIEST_MAP};

@@ -1,5 +1,5 @@
-//! Restores names and items that were removed. The memory for this is allocated before the removal,
-//! so that the undo of an edit can't fail.
+//! Restores names and items that were removed. Memory that is enough for this is allocated before
+//! the removal, so that the undo of an edit can't fail.
 
 ghost use Rattle.std.specs.Prelude.{◌≡◌, ◌+◌, ◌<◌, ◌∷◌, [], ℕ, Option, IfOk, length, true};
 ghost use Rattle.crush_model.specs.ItemRows.{device_row, bucket_row};
