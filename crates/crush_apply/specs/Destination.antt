@@ -26,7 +26,7 @@ pub record EndsAt (t : List Row) (ps : List StopData) (k : ℕ) (b : Option ℕ)
   pub receiver : b ≡ receiver t ps
   pub passes : first_refusal (end_tests t ps) ≡ None
 
--- the destination is right for the table: its stops form a route (IsRoute), `fresh` is the number of stops that need a new bucket, and `receiver` is the bucket that ends the route, or None if no bucket ends it
+-- the destination is right for the table: its stops form a route (IsRoute), and `fresh` is the number of stops that need a new bucket. `receiver` is the bucket that ends the route, or None if no bucket ends it
 pub record Leads (t : List Row) (to : DestinationData) : Type 0 where
   pub route : IsRoute t to.stops
   pub fresh : to.fresh ≡ length (fresh_stops t to.stops)

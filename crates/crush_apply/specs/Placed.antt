@@ -46,7 +46,7 @@ pub record CanPutNew (t : List Row) (d : LeafData) (ps : List StopData) : Type 0
   pub room : has_too_many (put t (device_row None d) ps) ≡ false
   pub light : is_too_heavy (put t (device_row None d) ps) ≡ false
 
--- If the call succeeds, it returns a bucket that has room for an item, and it may have added rows to the forest. For every table t that the old forest represents, this bucket is `which t`, and the new forest represents the table t followed by the rows `more t`, which may be none. If the returned addition were undone, the forest would be exactly the old forest. If the call fails, nothing has changed
+-- If the call succeeds, it returns a bucket that has room for an item, and it may have added rows to the forest. For every table t that the old forest represents, this bucket is `which t`. The new forest represents the table t followed by the rows `more t`, which may be none. If the returned addition were undone, the forest would be exactly the old forest. If the call fails, nothing has changed
 pub record MakesRoom {A E : Type 0} (more : List Row → List Row) (which : List Row → Option ℕ) (old new : ForestData) (answer : Result (ℕ × Addition A) E) : Type 0 where
   pub next : IfOk answer (λ z. (t : List Row) → Stands old t → which t ≡ Some z.0)
   pub stands : OnOk answer ((t : List Row) → Stands old t → Stands new (t ++ more t))

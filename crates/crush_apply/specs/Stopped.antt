@@ -23,6 +23,6 @@ stops_data l xs = map (stop_data l) xs
 abbrev pub IsPairOf : List Pair → Stop → Type 0
 IsPairOf l x = x.pair < length l
 
--- the stops after one more stop was inserted, before the first stop whose type number is at least that of the inserted stop, or at the end if there is no such stop
+-- the stops after one more stop was inserted: before the first stop whose type number is at least that of the inserted stop, or at the end if there is no such stop
 abbrev pub put_stop : Stop → List Stop → List Stop
 put_stop p xs = insert xs (position_or_len (λ (q : Stop). nat_le p.kind q.kind) xs) p

@@ -20,7 +20,7 @@ use Rattle.crush_hierarchy.specs.declared.hierarchy.renamed.OldName.{OldName}
 abbrev pub answers_named : ItemId → List ℕ → List ℕ → Index → Answers
 answers_named i own name index = if is_some (id_answer index.names name) then answers index else without_name own (with_name name i (answers index))
 
--- If the call succeeds, the index gives the answers that it has after the item i is renamed from `own` to `name`, and the result of the call can restore the name `own`. If the call fails, the index answers as before. In both cases the index hashes as before.
+-- If the call succeeds, the index answers as it must after the item i was renamed from `own` to `name` (answers_named), and the result of the call has the name `own`. If the call fails, the index answers as before. In both cases the index hashes as before.
 pub record TellsName {E : Type 0} (i : ItemId) (name own : List ℕ) (old new : Index) (answer : Result NameMemory E) : Type 0 where
   pub ok : OnOk answer (answers new ≡ answers_named i own name old)
   pub back : IfOk answer (λ back. back.name ≡ own)

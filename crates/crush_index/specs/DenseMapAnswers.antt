@@ -15,7 +15,7 @@ entry_at entries n = get_or entries n None
 abbrev pub sparse_at : {T S : Type 0} → IndexMap ℕ T S → Chain ℕ T → ℕ → Option T
 sparse_at sparse overflow n = option_or (get nat_eq sparse n) (chain_answer (nat_eq n) overflow)
 
--- the value of a number: its entry in the vector, or, if this entry is None, its value in the hash map, or, if the hash map doesn't have the number, its value in the chain
+-- the value of a number: its entry in the vector. If this entry is None, it is the value that the number has in the hash map, and if the hash map doesn't have the number, its value in the chain
 unfoldable pub answer_at : {T : Type 0} → DenseMap T → ℕ → Option T
 answer_at dense_map n = option_or (entry_at dense_map.dense.items n) (sparse_at dense_map.sparse dense_map.overflow n)
 

@@ -25,7 +25,7 @@ abbrev pub AnswersOne : Names → Names → List ℕ → Option ItemId → Type 
 AnswersOne old new name o =
     (n : List ℕ) → id_answer new n ≡ (if bytes_eq name n then o else id_answer old n)
 
--- the first name has the id that the option o gives, the second name has the id that the option p gives (None means no id), and every other name has the same id as before; if both names are equal, the name has the id o
+-- the name `name` has the id that the option o gives, and the name `other` has the id that the option p gives; None means no id. Every other name has the same id as before. If both names are equal, the name has the id that o gives
 abbrev pub AnswersTwo : Names → Names → List ℕ → Option ItemId → List ℕ → Option ItemId → Type 0
 AnswersTwo old new name o other p =
     (n : List ℕ) → id_answer new n ≡ (if bytes_eq name n then o else (if bytes_eq other n then p else id_answer old n))

@@ -19,7 +19,7 @@ abbrev pub is_for_device : PlaceMemory → Bool
 is_for_device (Device e) = true
 is_for_device (Bucket n s) = false
 
--- RESTORING A ROW: the memory has the row's name, its memory for the place is for the row's kind of item, and it has memory for as many ids as the row uses
+-- RESTORING A ROW: the memory has the row's name, and memory for as many ids as the row uses. Its memory for the place is for a device if the row is the row of a device, and for a bucket otherwise
 pub record CanRestoreRow (r : Row) (memory : RestoreMemory) : Type 0 where
   pub name : memory.name.name ≡ r.name
   pub place : is_for_device memory.place ≡ is_device r

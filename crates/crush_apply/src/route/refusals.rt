@@ -18,9 +18,9 @@ use crush_hierarchy::Hierarchy;
 use crush_units::{BucketId, DeviceId, ItemId, Name, TypeId};
 use std::alloc::{Allocator, Global};
 
-/// Makes the tests of a location that don't depend on the items of the map. Returns a refusal if
-/// the location has a type name or a bucket name twice, has the name of type 0, has the name of a
-/// type that the setting doesn't have, or has no pairs.
+/// Makes the tests of a location that don't depend on the items of the map. Returns a refusal in
+/// three cases. First, the location has a type name or a bucket name twice, or has the name of type
+/// 0. Second, it has the name of a type that the setting doesn't have. Third, it has no pairs.
 pub(crate) fn check_location(setting: &Setting, at: &Location) -> Result<(), Refusal>
     ensures passes { OnOk result (first_refusal (location_tests setting.now at.now) ≡ None) }
     ensures refused { IfErr result

@@ -29,11 +29,11 @@ impl<A: Allocator> Hierarchy<A> {
 
 impl<A: Allocator + Clone> Hierarchy<A> {
     /// Ensures that a place has room for one more item, in a way that can be undone. The place must
-    /// exist. If the place is full, the call moves the items of the place to a vector with 1.5
-    /// times the capacity, rounded down, plus one, and returns the old vector. With the old vector,
-    /// [`Hierarchy::replace_buffer`] undoes the call. If the place already has room, the call
-    /// returns `Ok(None)` and changes nothing. Returns an error if memory can't be allocated; then
-    /// nothing changes.
+    /// exist. If the place is full, the call moves the items of the place to a larger vector, and
+    /// returns the old vector. The larger vector has 1.5 times the capacity of the old vector,
+    /// rounded down, plus one. With the old vector, [`Hierarchy::replace_buffer`] undoes the call.
+    /// If the place already has room, the call returns `Ok(None)` and changes nothing. Returns an
+    /// error if memory can't be allocated; then nothing changes.
     pub fn grow_buffer(&mut self, place: Place) -> Result<Option<Vec<Node<A>, A>>, AllocError>
         requires { is_place (rows_of self.old) place ≡ true }
         ensures { GrowsBuffer place self.old self.new result }

@@ -126,9 +126,8 @@ impl Index {
     /// to allocate it, and if this fails, it stores the entries in `memory`.
     ///
     /// `hint` is the item's index among the items of the place, from 0. A wrong hint changes no
-    /// answer. `memory` must be the result of [`Index::restore_memory`] for this item, so that it
-    /// has the item's name, memory for an item of this kind, and memory for each id that the item
-    /// uses.
+    /// answer. `memory` must be the result of [`Index::restore_memory`] for this item. It then has
+    /// the item's name, memory for an item of this kind, and memory for each id that the item uses.
     pub fn restore_node<A: Allocator>(
         &mut self,
         place: Place,
