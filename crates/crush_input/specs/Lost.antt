@@ -1,4 +1,4 @@
--- The lost changes of the operators of a run: when they end the run, and which notes say what they are.
+-- The lost changes of the operators of a run: in which case they end the run, and which notes list them.
 use Rattle.std.specs.Prelude.{◌≡◌, ℕ, ◌<◌, ◌==◌, Bool, true, List, [], ◌++◌, Result, Ok, Err, if◌then◌else◌}
 use Rattle.crush_input.specs.declared.fault.RunFault.{RunFault}
 use Rattle.crush_input.specs.declared.fault.RunFault.TheVariants as run

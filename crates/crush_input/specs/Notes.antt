@@ -32,7 +32,7 @@ abbrev pub IsKept : Option MapData → SettingData → List Row → Type 0
 IsKept None s t = ⊥
 IsKept (Some m) s t = MapStands m s t
 
--- WHAT IS STORED OF A JOB'S TEXT, so that notes can be written later. `origin` gives the file from which each line comes, and `lines` has the numbers of the lines with each script's edits. `bytes` are the bytes of the job (`bytes_kept`), and `weights` are the notes on the weights in the map's text (`weight_notes`)
+-- STORED PARTS OF A JOB'S TEXT, from which notes can be written later. `origin` gives the file from which each line comes, and `lines` has the numbers of the lines with each script's edits. `bytes` are the bytes of the job (`bytes_kept`), and `weights` are the notes on the weights in the map's text (`weight_notes`)
 pub record TextData : Type 0 where
   pub origin : ℕ → OriginData
   pub lines : List (List ℕ)
@@ -52,11 +52,11 @@ refused_notes mode text s t names h =
 abbrev pub weight_notes : Bool → List ℕ → List Row → List ℕ
 weight_notes explain bytes t = if explain then written_text t (map_part bytes) else []
 
--- the bytes that are stored of a job: all of them with `--explain`, otherwise none
+-- the bytes of a job that are stored: all of them with `--explain`, otherwise none
 abbrev pub bytes_kept : Bool → List ℕ → List ℕ
 bytes_kept explain bytes = if explain then bytes else []
 
--- THE TEXT that a run stores of a job with these bytes and with the table t; `origin` says from which file each line comes
+-- THE STORED PARTS of the text of a job with these bytes and with the table t; `origin` says from which file each line comes
 abbrev pub text_of : Bool → (ℕ → OriginData) → List ℕ → List Row → TextData
 text_of explain origin bytes t = record { origin = origin; lines = job_lines bytes; bytes = bytes_kept explain bytes; weights = weight_notes explain bytes t }
 
@@ -64,7 +64,7 @@ text_of explain origin bytes t = record { origin = origin; lines = job_lines byt
 abbrev pub history_notes : Mode → TextData → SettingData → List Row → List (List ℕ) → List EntryData → List ℕ
 history_notes mode text s t names h = refused_notes mode text s t names h ++ text.weights
 
--- LINES OF CREATED BUCKETS: the history lines of the calls that created more buckets than they have `add-bucket` commands. With `--explain`, hints follow each of these lines. The hints depend on the setting and the table before the first call
+-- LINES OF CREATED BUCKETS: the history lines of the calls that created more buckets than they have `add-bucket` commands. With `--explain`, hints can follow after each of these lines. The hints depend on the setting and the table before the first call
 abbrev pub created_lines : Bool → SettingData → List Row → List (List ℕ) → List EntryData → List ℕ
 created_lines explain s t names h = if explain then created_text s t names h else made_text names 1 h
 
@@ -77,7 +77,7 @@ created_notes mode s t names h =
 abbrev pub place_notes : Bool → (ℕ → OriginData) → List ℕ → JobFault → List ℕ
 place_notes explain origin bytes fault = if explain then fault_text (origin (fault_line bytes fault)) bytes fault else []
 
--- the note of a file that can't be opened or read: its name, of which each byte is shown as in every message, and the system's reason
+-- the note of a file that can't be opened or read: the file's name, in which each byte has the form that `shown_byte` gives, and the system's reason
 abbrev pub unread_text : List ℕ → List ℕ → List ℕ
 unread_text name reason = codes "  " ++ map shown_byte name ++ codes ": " ++ reason ++ codes "\n"
 

@@ -52,7 +52,7 @@ abbrev pub IsTreeOf : TreePartSpec → Output → Type 0
 IsTreeOf words (output.Tree part) = IsPartOf words part
 IsTreeOf words what = ⊥
 
--- the old map is the map in the file that the command line names, if the file's bytes are known. Everything else is as the command line says
+-- the old map is the map in the file that the command line names, if the file's bytes are known. The values of `by_name` and `under` are those of the command line
 pub record IsOldOf (content : List ℕ → Option (List ℕ)) (words : Since) (old : OldMap) : Type 0 where
   pub map : IfSome (content words.map.bytes.items) (IsTextOf old.map)
   pub by_name : old.by_name ≡ words.by_name
@@ -63,7 +63,7 @@ pub record IsOldTreeOf (content : List ℕ → Option (List ℕ)) (words : Chang
   pub map : IfSome (content words.map.bytes.items) (IsTextOf old.map)
   pub part : IsPartOf words.part old.part
 
--- the wanted map is the map in the file that the command line names, if the file's bytes are known. Everything else is as the command line says
+-- the wanted map is the map in the file that the command line names, if the file's bytes are known. The values of `as_ceph`, `by_name` and `under` are those of the command line
 pub record IsTargetOf (content : List ℕ → Option (List ℕ)) (words : Target) (target : TargetMap) : Type 0 where
   pub map : IfSome (content words.map.bytes.items) (IsTextOf target.map)
   pub as_ceph : target.as_ceph ≡ words.as_ceph
@@ -88,13 +88,13 @@ IsSecondMapFault bytes (unread.Text fault) = (length bytes ≤ LONGEST_JOB) × I
 IsSecondMapFault bytes unread.TooLong = LONGEST_JOB < length bytes
 IsSecondMapFault bytes unread.Read = Unit {0}
 
--- the faults with which reading the second map, which the option `why` names, may fail: a fault of this map, or memory ran out. If the bytes of the map's file are known, they have the fault of the map
+-- the faults with which the second map of the option `why` may fail to be read: a fault of this map, or the fault that memory ran out. If the bytes of the map's file are known, they have the fault of the map
 abbrev pub IsMapFault : SecondMap → Option (List ℕ) → RunFault → Type 0
 IsMapFault why all (run.SecondMap which fault) = (which ≡ why) × IfSome all (λ bytes. IsSecondMapFault bytes fault)
 IsMapFault why all run.Memory = Unit {0}
 IsMapFault why all fault = ⊥
 
--- the faults with which creating the output may fail: for a second map the faults of `IsMapFault`, for a tree only that memory ran out, and for any other output none
+-- the faults with which creating the output may fail. If the output needs a second map, they are the faults of `IsMapFault`. If the output is a tree of the map, the only fault is that memory ran out. Any other output has no fault
 abbrev pub IsOutputFault : (List ℕ → Option (List ℕ)) → OutputSpec → RunFault → Type 0
 IsOutputFault content (output_spec.Tree part) fault = fault ≡ run.Memory
 IsOutputFault content (output_spec.Since words) fault = IsMapFault second.Since (content words.map.bytes.items) fault
@@ -102,7 +102,7 @@ IsOutputFault content (output_spec.Changes words) fault = IsMapFault second.Sinc
 IsOutputFault content (output_spec.To words) fault = IsMapFault second.To (content words.map.bytes.items) fault
 IsOutputFault content what fault = ⊥
 
--- the notes of a fault of `IsOutputFault`: for a second map the notes about its file, and for a tree none
+-- the notes of a fault of `IsOutputFault`: the notes about the second map's file if the output needs a second map, and no notes for a tree of the map
 abbrev pub AreNotesOfOutputFault : (List ℕ → Option (List ℕ)) → Bool → OutputSpec → RunFault → List ℕ → Type 0
 AreNotesOfOutputFault content explain (output_spec.Tree part) fault notes = notes ≡ []
 AreNotesOfOutputFault content explain (output_spec.Since words) fault notes = AreNotesOfSecondMap explain words.map.bytes.items (content words.map.bytes.items) fault notes

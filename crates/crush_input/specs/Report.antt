@@ -74,7 +74,7 @@ second_map_fault which (unread.Text f) = if is_out_of_memory f.kind then out_of_
 second_map_fault which unread.TooLong = codes "crushedit: " ++ map_word which ++ codes ": TooLong\n"
 second_map_fault which unread.Read = codes "crushedit: " ++ map_word which ++ codes ": read fault\n"
 
--- the line for an item, a type or a class that the map doesn't have. It has the name from the command line, whose bytes are shown as in every message
+-- the line for an item, a type or a class that the map doesn't have. The line has the name from the command line, in which each byte has the form that `shown_byte` gives
 abbrev pub lacking_line : List ℕ → List ℕ → List ℕ
 lacking_line what name = codes "crushedit: no " ++ what ++ map shown_byte name ++ codes "\n"
 

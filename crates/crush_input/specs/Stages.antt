@@ -35,7 +35,7 @@ abbrev pub IsMadeFault : Bool → RunFault → Type 0
 IsMadeFault no_make (run.Made n) = no_make ≡ true
 IsMadeFault no_make fault = ⊥
 
--- the value `read` is the result of parsing the bytes of this job: it has this job, and what it stores of the text belongs to these bytes and to the files from which their lines come
+-- the value `read` is the result of parsing the bytes of this job. It has this job, and it has the stored parts of the text (`text_of`) for these bytes, for the job's table and for the origin of each line
 pub record IsParsedJob (explain : Bool) (origin : ℕ → OriginData) (bytes : List ℕ) (job : JobData) (read : ParsedJob) : Type 0 where
   pub stands : JobStands read.job job
   pub text : text_data read.text ≡ text_of explain origin bytes job.table

@@ -124,13 +124,13 @@ is_bad_word kind = false
 abbrev pub begins_script : List ℕ → TextFault → Bool
 begins_script bytes fault = is_bad_word fault.kind && (fault.place == 0 || slice_index bytes (fault.place - 1) == 10) && slice_index bytes fault.place == 37
 
--- NOTES OF A FLAW of a verb's map in a file that is called `shown`: its place and the reason. If the flaw is the beginning of a script, they say where scripts belong.
+-- NOTES OF A FLAW of a verb's map in a file that is called `shown`: the place of the flaw and the reason. If the flaw is the beginning of a script, the reason says that scripts belong in files of their own.
 abbrev pub verb_flaw_notes : List ℕ → List ℕ → TextFault → List ℕ
 verb_flaw_notes shown bytes fault =
     if begins_script bytes fault then flaw_place_text (whole_of shown) bytes fault ++ codes "  scripts are files of their own here: crushedit apply MAP SCRIPT\n"
     else fault_text (whole_of shown) bytes (job.Text fault)
 
--- the reason for a fault that isn't a flaw, so that it has no place. There is none for a failed read, because the note about the file has the reason, and none if memory ran out
+-- the reason for a fault that isn't a flaw of the text, and has no place in it. There is no reason for a failed read, because the note about the file has the reason, and no reason if memory ran out
 abbrev pub verb_map_reason : VerbMapFault → List ℕ
 verb_map_reason verb.Cut = codes "  the text doesn't end with `# end crush map`: was it cut? If it is whole, add that line\n"
 verb_map_reason verb.TooLong = codes "  the file of a map has at most 16777216 bytes\n"

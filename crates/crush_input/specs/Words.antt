@@ -4,7 +4,7 @@ use Rattle.crush_options.specs.declared.parsed_options.Options.{Options}
 use Rattle.crush_options.specs.OutputFlags.{flags_by}
 use Rattle.crush_input.specs.declared.words.Words.{Words}
 
--- whether `--explain` is given, and the names after `--under`, `--down-to` and `--class`, each of them empty if it isn't given
+-- whether `--explain` is given, and the names after `--under`, `--down-to` and `--class`. A name is empty if its option isn't given
 pub record WordsData : Type 0 where
   pub explain : Bool
   pub under : List ℕ

@@ -394,7 +394,7 @@ fn status_of(outcome: &Result<Summary, RunFault>) -> u8
     }
 }
 
-/// The result of [`report`].
+/// The result of [`report`] and of [`report_verb_map`](crate::report_verb_map).
 #[derive(Clone, Copy, Debug, PartialEq, Eq)]
 pub struct ReportOutcome {
     /// The status with which the program ends.
@@ -405,9 +405,9 @@ pub struct ReportOutcome {
 
 /// Writes the text for standard error about a run, and returns the status of the program.
 ///
-/// The text begins with a line on the outcome of the run. It has no such line if the run has
-/// succeeded and has replaced no bucket weights. With `--explain`, a line with the reason for a
-/// fault follows, unless the notes have the reason. The text ends with `notes`.
+/// The text begins with a line on the outcome of the run. If the run has succeeded and has replaced
+/// no bucket weights, the text doesn't have this line. With `--explain`, a line with the reason for
+/// a fault follows, unless the notes have the reason. The text ends with `notes`.
 ///
 /// The status is:
 ///

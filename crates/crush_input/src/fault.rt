@@ -15,7 +15,7 @@ pub enum SecondMap {
     To,
 }
 
-/// Why the map of `--since` or `--to` could not be read.
+/// Why the map of `--since` or `--to` can't be used.
 #[derive(Clone, Copy, Debug, PartialEq, Eq, Error)]
 pub enum SecondMapFault {
     /// The map's text has this fault. The place of the fault is an index in the bytes of the file,
@@ -57,12 +57,13 @@ pub enum RunFault {
     /// `add-bucket` commands.
     #[error("made {0}")]
     Made(usize),
-    /// The run looks for lost changes, and this many items have a lost change. A command line that
-    /// begins with `apply` looks for them if it has at least two scripts, and doesn't have
-    /// `--last-wins`.
+    /// The run looks for lost changes, and this many items have a lost change. The run of a command
+    /// line that begins with `apply` looks for them if its job has at least two scripts, and the
+    /// command line doesn't have `--last-wins`.
     #[error("conflicts {0}")]
     Conflicts(usize),
-    /// The job was read, but the map of `--since` or `--to` couldn't be read.
+    /// The bytes of the job are a job, but the map of `--since` or `--to` can't be used: its file
+    /// couldn't be read, is too long, or isn't the text of a map.
     #[error("another map: {1}")]
     SecondMap(SecondMap, SecondMapFault),
     /// The run is strict, and this many differences remain after the commands of the plan.

@@ -28,8 +28,8 @@ const PIECE: usize = 65_536;
 /// Reads the bytes of a job up to their end. If there are more bytes than a job may have, the
 /// function reads one byte more than a job may have, and then stops.
 ///
-/// The function reads at most [`MOST_BYTES`] (16,777,217) bytes, with at most as many reads, even
-/// if it fails. If a read fails, the function doesn't repeat the read, and fails with
+/// The function reads at most [`MOST_BYTES`] (16,777,217) bytes, and calls `read` at most as many
+/// times, even if it fails. If a read fails, the function doesn't repeat the read, and fails with
 /// [`RunFault::Read`]. If memory runs out, it fails with [`RunFault::Memory`].
 pub fn read_bytes<R: Read>(alloc: Global, reader: &mut R) -> Result<Vec<u8>, RunFault>
     ensures few { IfOk result (λ bytes. length bytes.items ≤ MOST_BYTES) }
@@ -75,8 +75,8 @@ impl From<AllocError> for ReadFailure {
     }
 }
 
-/// Reads at most `most` bytes, with at most `most` reads. The function isn't inlined, so that its
-/// buffer `piece` isn't on the stack while a job runs.
+/// Reads at most `most` bytes, and calls `read` at most `most` times. The function isn't inlined,
+/// so that its buffer `piece` isn't on the stack while a job runs.
 #[inline(never)]
 fn read_most<R: Read>(alloc: Global, most: usize, reader: &mut R) -> Result<Vec<u8>, ReadFailure>
     ensures few { IfOk result (λ bytes. length bytes.items ≤ most) }

@@ -33,8 +33,9 @@ pub(crate) fn drawn_hashing<H: RandomSource>(rt: &H) -> Hashing {
 
 /// Parses the bytes of a job. `origins` says from which file each line of the job comes.
 ///
-/// With `explain`, the result also has the bytes, and notes on the map's text: a line for each
-/// bucket whose weight in the text isn't the sum of the weights of the devices below it.
+/// With `explain`, the result also has the bytes, and notes on the map's text: a warning if the
+/// text has carriage returns and no line feed, and a line for each bucket whose weight in the text
+/// isn't the sum of the weights of the devices below the bucket.
 ///
 /// If the bytes aren't a job, the function fails with [`RunFault::Job`]. Then with `explain`, notes
 /// say where the fault is, and why it is one. If memory runs out, the function fails with

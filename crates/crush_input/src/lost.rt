@@ -64,7 +64,8 @@ fn push_conflicts(lost: &LostChanges, text: &mut Vec<u8>) -> Result<(), AllocErr
 }
 
 /// Returns `notes`. If changes are lost, the line with the number of items that have a lost change
-/// follows, and then the lines of these items. Fails only if memory runs out.
+/// follows after `notes`, and then the lines of these items. The function fails only if memory runs
+/// out.
 pub fn notes_with_lost(
     alloc: Global,
     notes: &[u8],
@@ -78,12 +79,14 @@ pub fn notes_with_lost(
     Ok(text)
 }
 
-/// Returns the notes of a run that ended because of refused calls.
+/// Returns the notes of a run that ended because of refused calls. The result begins with `notes`.
 ///
-/// These are `notes`, followed by the notes on two other things that can also end a run. First,
-/// with `no_make`, come the calls that created more buckets than they have `add-bucket` commands.
-/// With `explain`, hints follow the line of such a call. Then come the lost changes. The function
-/// fails only if memory runs out.
+/// Then come the notes on created buckets and on lost changes, because they can also end a run.
+/// With `no_make`, if calls created more buckets than they have `add-bucket` commands, the result
+/// has a line with the number of these calls, and the history line of each of them. With `explain`,
+/// hints can follow after the history line of such a call. If changes are lost, the result ends
+/// with the line with the number of items that have a lost change, and the lines of these items.
+/// The function fails only if memory runs out.
 pub fn notes_with_made_and_lost(
     alloc: Global,
     mode: Mode,
@@ -106,7 +109,8 @@ pub fn notes_with_made_and_lost(
     Ok(text)
 }
 
-/// Returns the lines of the lost changes, followed by `notes`. Fails only if memory runs out.
+/// Returns the lines of the items that have a lost change, followed by `notes`. The function fails
+/// only if memory runs out.
 pub fn lost_notes(alloc: Global, lost: &LostChanges, notes: &[u8]) -> Result<Vec<u8>, AllocError>
     ensures { IfOk result (λ text. text.items ≡ (lost_data lost.now).lines ++ notes.now) }
 {

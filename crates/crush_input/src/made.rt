@@ -39,8 +39,8 @@ pub fn check_made(no_make: bool, entries: &[Entry]) -> Result<(), RunFault>
     Err(RunFault::Made(count))
 }
 
-/// Returns the history lines of the calls that [`check_made`] counts. Hints follow the line of a
-/// call, as [`made_notes`] says.
+/// Returns the history lines of the calls that [`check_made`] counts. Hints can follow after the
+/// history line of a call. [`made_notes`] says what a hint is.
 fn hinted_lines(alloc: Global, history: History<'_>) -> Result<Vec<u8>, AllocError>
     requires few { length history.entries.now ≤ MOST_ENTRIES }
     requires operators { AreOf (length history.scripts.now) history.entries.now }
@@ -56,8 +56,8 @@ fn hinted_lines(alloc: Global, history: History<'_>) -> Result<Vec<u8>, AllocErr
     created_text(alloc, opening, history.scripts, history.entries)
 }
 
-/// Returns the history lines of the calls that [`check_made`] counts. With `explain`, hints follow
-/// the line of a call.
+/// Returns the history lines of the calls that [`check_made`] counts. With `explain`, hints can
+/// follow after the history line of a call.
 fn created_lines(alloc: Global, explain: bool, history: History<'_>) -> Result<Vec<u8>, AllocError>
     requires few { length history.entries.now ≤ MOST_ENTRIES }
     requires operators { AreOf (length history.scripts.now) history.entries.now }
@@ -74,10 +74,11 @@ fn created_lines(alloc: Global, explain: bool, history: History<'_>) -> Result<V
 }
 
 /// Returns the history lines of the calls that [`check_made`] counts, followed by `notes`. With
-/// `explain`, hints follow the line of a call. A hint names an item of the map whose name is
-/// similar to the name of a created bucket, because the operator may have meant this item.
+/// `explain`, hints can follow after the history line of a call. A hint names an item of the map
+/// whose name is similar to the name of a bucket that the call created, because the operator may
+/// have meant this item.
 ///
-/// Without `no_make`, returns no bytes. Fails only if memory runs out.
+/// Without `no_make`, returns no bytes. The function fails only if memory runs out.
 pub fn made_notes(
     alloc: Global,
     mode: Mode,
@@ -118,8 +119,8 @@ fn push_counted(count: usize, lines: &[u8], text: &mut Vec<u8>) -> Result<(), Al
 }
 
 /// With `no_make`, appends the line with the number of the calls that [`check_made`] counts, and
-/// then the history lines of these calls. If `explain` is set, hints follow the line of a call. If
-/// there are no such calls, or without `no_make`, appends nothing.
+/// then the history lines of these calls. With `explain`, hints can follow after the history line
+/// of a call. If there are no such calls, or without `no_make`, appends nothing.
 pub(crate) fn push_created(
     alloc: Global,
     mode: Mode,

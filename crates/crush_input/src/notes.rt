@@ -50,8 +50,8 @@ pub fn check_strict(strict: bool, entries: &[Entry]) -> Result<(), RunFault>
 /// The calls of a run, and the map before them.
 #[derive(Clone, Copy)]
 pub struct History<'a> {
-    /// The map before the first call. It must be there with `explain`, because it is needed to find
-    /// the reasons of refusals and the hints for created buckets.
+    /// The map before the first call. With `explain`, this must not be `None`, because the map is
+    /// needed to find the reasons for refusals and the hints for created buckets.
     pub opening: &'a Option<CrushMap<Global>>,
     /// The scripts from which the calls come.
     pub scripts: &'a [Script],
@@ -60,12 +60,12 @@ pub struct History<'a> {
 }
 
 /// Returns the notes on a run's history. The lines of the refused calls come first. Then come the
-/// notes on the map's text that `text` has: with `explain`, a line for each bucket whose weight in
-/// the text isn't the sum of the weights of the devices below it; without `explain`, none.
+/// notes on the map's text, which are stored in `text` ([`KeptText::weights`]). Without `explain`,
+/// there are no notes on the map's text.
 ///
-/// With `explain`, the lines of refused calls have reasons. Without `explain`, a strict run has
-/// these lines without reasons, and any other run doesn't have them. The function fails only if
-/// memory runs out.
+/// With `explain`, reasons are given for the refused calls. Without `explain`, the notes of a
+/// strict run have the lines of the refused calls without reasons, and the notes of any other run
+/// don't have these lines. The function fails only if memory runs out.
 pub fn history_notes(
     alloc: Global,
     mode: Mode,
@@ -214,8 +214,8 @@ fn unread_text(alloc: Global, name: &str, error: &io::Error) -> Result<Vec<u8>, 
     Ok(text)
 }
 
-/// Returns the note about a file that can't be opened, read or replaced. It has the file's name and
-/// the system's reason. Without `explain`, returns nothing.
+/// Returns the note about a file that can't be opened, read or replaced. The note has the file's
+/// name and the system's reason. Without `explain`, returns no bytes.
 pub fn file_notes(
     alloc: Global,
     explain: bool,

@@ -12,7 +12,9 @@ pub struct Summary {
     pub changes: u32,
     /// Whether the status is 6 instead of 0. This is true only with `--exit-code`, and only if
     /// there is something to report. With `--since`, there is something to report if something has
-    /// changed since the old map. With `--to`, this is so if the plan has an edit, or leaves a
-    /// difference. With any other output, this is so if a call has changed the map.
+    /// changed since the old map. If `--under` is also given, only the changes of its item, and of
+    /// the items that are or were below it, count. With `--to`, there is something to report if the
+    /// plan has an edit, or if differences remain after the plan. With any other output, there is
+    /// something to report if a call has changed the map.
     pub differs: bool,
 }

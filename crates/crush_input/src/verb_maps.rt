@@ -60,9 +60,10 @@ pub enum VerbMapFault {
     /// The text has this fault. The fault is never that memory ran out.
     #[error("{0}")]
     Text(TextFault),
-    /// The text seems to be cut: its last line that isn't blank must be `# end crush map`, but
-    /// isn't. If the text also has another fault, it seems to be cut only if no line feed follows
-    /// after the place of this fault. Otherwise the other fault is reported.
+    /// The text seems to be cut: the verb requires that the last line that isn't blank is `# end
+    /// crush map`, but it isn't. If the text also has another fault, the text seems to be cut only
+    /// if no line feed is at the place of this fault or after it. Otherwise the other fault is
+    /// reported.
     #[error("cut")]
     Cut,
     /// The file has more than 16,777,216 bytes.
@@ -330,8 +331,9 @@ pub fn check_verb_map<H: AllocGlobal + RandomSource>(
     }
 }
 
-/// Whether these bytes may be a map that the verb can use. If they may be one, but aren't, then a
-/// run that parses them finds what is wrong with them.
+/// Whether the bytes pass the tests that need no parser: there are at most 16,777,216 bytes, no
+/// line of them begins with `%`, and the text is complete if `maps` requires this. If the bytes
+/// pass these tests, but aren't a map that the verb can use, then a run on them fails.
 fn may_be_map(maps: MapForm, bytes: &[u8]) -> bool
     ensures yes { result ≡ true → MayBeVerbMap maps bytes.now }
     ensures no { result ≡ false → IsVerbMap maps bytes.now → ⊥ }
@@ -365,8 +367,8 @@ fn screened_map<H: AllocGlobal + RandomSource>(
     }
 }
 
-/// Reads the file of a verb's map. If the function accepts the file, it doesn't parse it, because
-/// the run of the verb parses it.
+/// Reads the file of a verb's map. If the function succeeds, it hasn't parsed the bytes of the
+/// file, because the run of the verb parses them.
 ///
 /// Returns the bytes of the file. There are at most 16,777,216 bytes, and no line of them begins
 /// with `%`, because such a line would begin a script. If `maps` requires a complete map, their
@@ -469,9 +471,10 @@ fn write_refusal<E: Write>(refusal: &VerbMapRefusal, err: &mut E) -> Result<(), 
     put(err, refusal.notes.as_slice())
 }
 
-/// Writes to `err` which map could not be used, why, and the notes. Returns the status of the
-/// program: 1 if the map can't be used, 3 if its file couldn't be opened or read, and 4 if memory
-/// ran out. If writing to `err` fails, `written` says so, and the status doesn't change.
+/// Writes to `err` a line that says which map can't be used and why. The notes follow after this
+/// line. Returns the status of the program: 1 if the map can't be used, 3 if its file couldn't be
+/// opened or read, and 4 if memory ran out. If writing to `err` fails, `written` says so, and the
+/// status doesn't change.
 pub fn report_verb_map<E: Write>(refusal: &VerbMapRefusal, err: &mut E) -> ReportOutcome
     ensures status { result.status ≡ verb_map_status refusal.now.fault }
     ensures writes { Writes result.written (E.contents err.old) (E.contents err.new)

@@ -11,7 +11,7 @@ use Rattle.crush_since.specs.Since.{PlainMap}
 use Rattle.crush_since.specs.RulesByName.{named_rule}
 use Rattle.crush_since.specs.Stays.{stays}
 
--- two ids are of the same item: two equal device ids, or the ids of any two buckets
+-- two items of the same name, which have these ids, count as the same item. This is so if they are devices with equal ids, or if both are buckets, whatever their ids are
 abbrev pub AreOne : ItemId → ItemId → Type 0
 AreOne (Device d) (Device e) = d ≡ e
 AreOne (Bucket b) (Bucket c) = Unit {0}

@@ -11,7 +11,7 @@ use Rattle.crush_print.specs.ItemsText.{buckets_among}
 use Rattle.crush_since.specs.Changes.{ChangeData, change_at, stands_in, left_from, is_listed, with_below}
 use Rattle.crush_since.specs.Since.{PlainMap}
 
--- the rows of a list of the old map's items, in the place where the old map had them. If an item is a bucket that the new map doesn't have, the rows of the items that the bucket held follow the bucket's row
+-- the rows of a list of the old map's items, in the place where the old map had them. If an item is a bucket that the new map doesn't have, the rows of the items that the bucket held follow after the bucket's row
 abbrev pub stood_of : List Row → List Row → ℕ → Items → List ChangeData
 stood_of t u depth none = []
 stood_of t u depth (device d rest) = change_at t u false depth (Device d.id) ∷ stood_of t u depth rest

@@ -62,7 +62,7 @@ cut (Some kind) rows = down_to kind None rows
 unfoldable pub part_rows : TreePart → PlainMap → PlainMap → List ChangeData
 part_rows part old new = cut part.down_to (rows_under part.under (change_rows old new))
 
--- the lines that follow the rows; none if the part has a top item
+-- the lines that follow after the rows; none if the part has a top item
 abbrev pub lines_behind : Option ItemId → PlainMap → PlainMap → List ℕ
 lines_behind None old new = last_lines old new (tally_of old.table new.table (all_ids old.table new.table))
 lines_behind (Some i) old new = []

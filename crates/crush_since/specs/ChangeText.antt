@@ -29,7 +29,7 @@ weighed x = weighed_here x.stands x.was x.is
 abbrev pub weighs : ChangeData → Option ℕ
 weighs x = if x.stands then option_map (λ (b : ItemData). b.view.weight) x.is else None
 
--- NOTES: what has changed in an item besides its weight. The row itself shows the item's place, type, class and weight. This first definition is the word for the item's parent
+-- NOTES: what has changed in an item besides its weight. The row itself shows the item's place, type, class and weight. The definition below, `holder_word`, is the word for the item's parent
 abbrev pub holder_word : ItemId → Option (List ℕ) → Option ℕ → List ℕ
 holder_word i holder (Some p) = unwrap_or holder []
 holder_word (Device d) holder None = codes "(unplaced)"

@@ -59,7 +59,7 @@ stands_at old new (suc n) depth (Bucket b) =
     with_below (is_listed old new (Bucket b)) (change_at old.table new.table true depth (Bucket b))
     (flat_map (stands_at old new n (depth + 1)) (kids new.table b) ++ left_from old.table new.table (depth + 1) (Some b) (kids old.table b))
 
--- CHANGE ROWS: first come the rows of the new map's roots, by id from -1 downward, and then the rows of the old map's roots that aren't roots in the new map. The rows of the unplaced devices follow in the same way, by ascending id
+-- CHANGE ROWS: first come the rows of the new map's roots, by id from -1 downward, and then the rows of the old map's roots that aren't roots in the new map. The rows of the unplaced devices follow: first those of the new map by ascending id, and then those of the devices that are unplaced only in the old map
 unfoldable pub root_rows : PlainMap → PlainMap → List ChangeData
 root_rows old new =
     flat_map (λ b. stands_at old new (length new.table) 0 (Bucket b)) (root_numbers new.table) ++ left_from old.table new.table 0 None (map Bucket (root_numbers old.table))

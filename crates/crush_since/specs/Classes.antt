@@ -9,7 +9,7 @@ use Rattle.crush_items.specs.Entries.{EntryData}
 use Rattle.crush_since.specs.declared.since.collected.Source.{Source}
 use Rattle.crush_since.specs.declared.since.collected.Source.TheVariants.{Old, New, Rule}
 
--- the class that an item has or that a step takes, with the amounts that this item or step adds to the class. It is a list, which is empty if there is no class
+-- the class that an item has or that a step takes, with the amounts that this item or step adds to the class. The result is a list with one element, or the empty list if there is no class
 abbrev pub class_of : (Amount → ℕ) → Option (List ℕ) → List ClassData
 class_of amounts None = []
 class_of amounts (Some c) = record { name = c; amount = amounts } ∷ []

@@ -12,7 +12,7 @@ use Rattle.crush_print.specs.RuleLines.{bucket_name}
 use Rattle.crush_since.specs.Rules.{RuleChangeData, rule_takes_nothing, rule_change_lines}
 use Rattle.crush_edits.specs.Stops.{bucket_named}
 
--- the weight of an item. If a class is given, the weight of the devices of this class that are the item or below it. There is no weight if the table doesn't have the item
+-- the weight of an item. If a class is given, the weight of the devices of this class that are the item or below it. The result is none if the table doesn't have the item
 abbrev pub weight_as : List Row → Option (List ℕ) → ItemId → Option ℕ
 weight_as t None i = weight_of t i
 weight_as t (Some c) i = class_weight_of t i c

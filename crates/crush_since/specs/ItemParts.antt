@@ -10,7 +10,7 @@ pub use Rattle.crush_compare.specs.SameItem.{same_algs, same_class_id}
 use Rattle.crush_items.specs.ItemData.{ItemData}
 use Rattle.crush_since.specs.ItemWords.{item_word, place_word, type_word, class_or_none, alg_word, whole_word}
 
--- PARTS: a list that has the text about one difference. The text is one part of a line, or a whole line. The list is empty if `same` is true, which says that there is no such difference
+-- PARTS: a list with one element, the text about one difference. The text is one part of a line, or a whole line. If `same` is true, there is no such difference, and the list is empty
 abbrev pub part : Bool → List ℕ → List (List ℕ)
 part same text = if same then [] else text ∷ []
 

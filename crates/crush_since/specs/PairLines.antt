@@ -13,7 +13,7 @@ use Rattle.crush_since.specs.ItemParts.{item_line}
 use Rattle.crush_since.specs.Tallies.{is_made, is_removed, is_renamed, is_moved, is_reweighed, is_reclassed}
 use Rattle.crush_since.specs.declared.since.tally.Tally.{Tally}
 
--- what an entry says about its item, without the class ids
+-- what an entry says about its item, without the class ids; none if there is no entry
 abbrev pub entry_item : Option EntryData → Option ItemData
 entry_item o = option_map (λ e. e.item) o
 

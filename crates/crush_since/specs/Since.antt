@@ -37,11 +37,11 @@ item_lines old new = flat_map (id_line old new) (all_ids old.table new.table)
 unfoldable pub totals_line : ℕ → ℕ → List ℕ
 totals_line before after = codes "total " ++ weight_text before ++ codes " to " ++ weight_text after ++ codes "\n"
 
--- the lines that follow the items: about settings, rules that take nothing, classes, totals and counts
+-- the lines that follow after the lines of the items: about settings, rules that take nothing, classes, totals and counts
 unfoldable pub last_lines : PlainMap → PlainMap → Tally → List ℕ
 last_lines old new counts =
     setting_lines old.setting new.setting ++ emptied_lines old.table new.table new.setting ++ class_lines old.table new.table new.setting ++ totals_line (total old.table) (total new.table) ++ counts_line counts
 
--- SINCE TEXT: the lines of the items, and the lines that follow them
+-- SINCE TEXT: the lines of the items, followed by the lines that aren't about single items
 unfoldable pub since_text : PlainMap → PlainMap → List ℕ
 since_text old new = item_lines old new ++ last_lines old new (tally_of old.table new.table (all_ids old.table new.table))

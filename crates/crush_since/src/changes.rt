@@ -39,13 +39,17 @@ use std::io::Write;
 /// Writes the tree of what has changed from the old map to the new map, or a part of this tree.
 ///
 /// An item of the new map has a row if [`write_since`](crate::write_since) writes a line for the
-/// item, or if any row is below the item. After the items of a bucket come rows for the items that
-/// the bucket held in the old map and doesn't hold in the new map. In the same way, rows for the
-/// buckets that were roots only in the old map come after the new map's roots. Rows for the devices
-/// that were unplaced only in the old map come after the new map's unplaced devices. If any of
-/// these rows is for a bucket that the new map doesn't have at all, a row for each item that the
-/// bucket held follows. If such an item is also a bucket that the new map doesn't have, the rows of
-/// the items that it held follow in the same way.
+/// item, or if any row is below the item. The tree also has rows for items in places where only the
+/// old map has them. If a bucket held an item in the old map, and doesn't hold the item in the new
+/// map, then the tree has a row for the item below this bucket, after the rows of the items that
+/// the bucket holds in the new map. If a bucket was a root only in the old map, its row follows
+/// after the rows of the new map's roots and of the items below them. If a device was unplaced only
+/// in the old map, its row follows after the rows of the new map's unplaced devices.
+///
+/// Suppose that such a row is for a bucket that the new map doesn't have at all. Then a row for
+/// each item that this bucket held in the old map follows. If one of these items is itself a bucket
+/// that the new map doesn't have, then rows for the items that this bucket held follow after its
+/// row, and so on.
 ///
 /// Each row has two weights: the weight that the item had in this place in the old map, and the
 /// weight that the item has in this place in the new map. If the item wasn't in this place in the

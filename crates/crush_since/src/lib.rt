@@ -5,8 +5,9 @@
 //! tree for the devices of one class. These three functions match the items of the two maps by
 //! their ids, by which CRUSH itself knows them. [`write_since_by_name`] matches items by their
 //! names. [`stays`] lists what differs between a map and a wanted map, and [`count_aside`] counts
-//! the buckets whose ids differ between the two maps. Each text is built in memory as a whole
-//! before its first byte is written. A call fails with an `AllocError` only if memory runs out.
+//! the buckets whose ids differ between the two maps. A function that writes a text first builds
+//! the whole text in memory, and then writes it. A call fails with an `AllocError` only if memory
+//! runs out.
 #![tactic(auto)]
 
 mod changes;

@@ -19,8 +19,10 @@ use crush_tree::{Bucket, Node};
 use crush_units::ItemId;
 use std::alloc::{AllocError, Allocator, Global};
 
-/// A row of the tree of what has changed. If `stands` is true, the new map has the item in this
-/// place. Otherwise only the old map had the item in this place.
+/// A row of the tree of what has changed. A row is for an item in a place, which is the bucket that
+/// holds the item. An item that no bucket holds is in the place of the roots or of the unplaced
+/// devices. If `stands` is true, the new map has the item in this place. Otherwise only the old map
+/// had the item in this place.
 #[derive(Clone, Copy, Debug)]
 pub(crate) struct TreeRow {
     pub id: ItemId,
@@ -33,8 +35,9 @@ pub(crate) struct TreeRow {
 
 /// Returns the rows of the tree. First come the rows of the new map's roots, by id from -1
 /// downward. Each of these rows is followed by the rows below it. After them come the rows of the
-/// old map's roots that aren't roots in the new map, and then the rows of the unplaced devices. The
-/// unplaced devices come in the same way, by ascending id.
+/// old map's roots that aren't roots in the new map. Last come the rows of the unplaced devices:
+/// first those of the new map by ascending id, and then those that are unplaced only in the old
+/// map, also by ascending id.
 #[tactic(auto, unfolding(crate::specs::Changes::change_rows))]
 pub(crate) fn rows_of<A: Allocator, B: Allocator>(
     alloc: Global,

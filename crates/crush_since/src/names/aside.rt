@@ -1,5 +1,5 @@
 //! Counts the buckets whose ids differ between two maps. No command sets an id, so a plan can't
-//! remove these differences, and they are only counted.
+//! remove these differences. For this reason they are counted, but not listed.
 
 ghost use Rattle.std.specs.Prelude.{◌≡◌, ◌+◌, ◌^◌, ◌<◌, ◌≤◌, ◌++◌, ◌&&◌, List, OnOk, IfOk, is_some, map as each};
 ghost use Rattle.std.specs.List.{count_by};

@@ -29,10 +29,11 @@ use std::io::Write;
 /// order of the new map's tree. A line for each item that only the old map has follows, in the
 /// order of the old map's tree. After these lines there may be a line that says that the tunables
 /// differ, and a line that says that the types differ. Lines about rules and lines about classes
-/// follow. The buckets that rules take are compared by their names. The last two lines have the
-/// total weight of each map, and for each kind of difference the number of items that have it. If a
-/// write fails, the writer has received a beginning of the text, but not the whole text. If memory
-/// runs out, nothing is written.
+/// follow. The buckets that rules take are compared by their names. The second-to-last line has the
+/// total weight of each map, which is the sum of the weights of all devices that a bucket holds.
+/// The last line has, for each kind of difference, the number of items that have it. If a write
+/// fails, the writer has received a beginning of the text, but not the whole text. If memory runs
+/// out, nothing is written.
 pub fn write_since_by_name<A: Allocator, B: Allocator, W: Write>(
     alloc: Global,
     old: &CrushMap<A>,
@@ -54,9 +55,9 @@ pub fn write_since_by_name<A: Allocator, B: Allocator, W: Write>(
 
 /// Writes only some lines of [`write_since_by_name`]: those about the item with the name `under`,
 /// and about all items that are below this item in at least one of the maps. The lines about
-/// settings, classes, total weights and counts are left out. The text is empty if no such line is
-/// left. If a write fails, the writer has received a beginning of the text, but not the whole text.
-/// If memory runs out, nothing is written.
+/// settings, classes, total weights and counts are left out. If nothing has changed in these items,
+/// the text is empty. If a write fails, the writer has received a beginning of the text, but not
+/// the whole text. If memory runs out, nothing is written.
 pub fn write_since_by_name_part<A: Allocator, B: Allocator, W: Write>(
     alloc: Global,
     old: &CrushMap<A>,

@@ -16,9 +16,9 @@ use crush_units::ItemId;
 use std::alloc::{AllocError, Allocator, Global};
 
 /// Whether [`write_since`](crate::write_since) writes a line about an item, or a line which says
-/// that tunables, types or rules differ, or that the order of rules differs. Its other lines don't
-/// count: those about rules that take nothing, classes, total weights and counts. The call fails
-/// only if memory runs out.
+/// that tunables, types or rules differ, or that the order of rules differs. The other lines of
+/// `write_since` don't count: those about rules that take nothing, classes, total weights and
+/// counts. The call fails only if memory runs out.
 pub fn is_changed<A: Allocator, B: Allocator>(
     alloc: Global,
     old: &CrushMap<A>,

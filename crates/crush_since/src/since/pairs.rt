@@ -1,6 +1,6 @@
-//! Appends the line of each pair of a comparison, and tests whether any pair differs. A pair has
-//! the old map's item and the new map's item with the same id, or one item whose id only one of the
-//! maps has.
+//! Appends the line of each pair of a comparison, and tests whether any pair differs. If both maps
+//! have an item with the same id, these two items are a pair. If only one of the maps has an item
+//! with an id, this item alone is a pair.
 
 ghost use Rattle.std.specs.Prelude.{◌≡◌, ◌++◌, List, OnOk, flat_map, map as each};
 ghost use Rattle.std.specs.Option.{option_map};

@@ -150,8 +150,8 @@ pub(crate) fn push_units(units: u128, out: &mut Vec<u8>) -> Result<(), AllocErro
     push_all(&[whole, &fraction], out)
 }
 
-/// Appends the line with the total weights of the old map and of the new map. Both are in units of
-/// 1/65536.
+/// Appends the line with the total weights of the old map and of the new map. The arguments are in
+/// units of 1/65536.
 #[tactic(auto, unfolding(crate::specs::Since::totals_line))]
 pub(crate) fn push_totals(before: u64, after: u64, out: &mut Vec<u8>) -> Result<(), AllocError>
     ensures { OnOk result (out.new.items ≡ out.old.items ++ totals_line before after) }

@@ -1,6 +1,7 @@
-//! Builds the parts of an item's line: one part for each column in which the two maps differ. A
-//! line about a wanted map says `A, wanted B`, and a line about what has changed says `A to B`. The
-//! argument `between` has the text between the two values.
+//! Builds the parts of an item's line: one part for each column in which the two maps differ. If
+//! the line is about a map and a wanted map, a part says `A, wanted B`. If the line is about an old
+//! map and a new map, a part says `A to B`. The argument `between` has the text between the two
+//! values.
 
 ghost use Rattle.std.specs.Prelude.{◌≡◌, ◌++◌, OnOk};
 ghost use Rattle.std.specs.Option.{option_map};
