@@ -25,6 +25,6 @@ unfoldable pub table_alone : SettingData → List Row → List Call → List Row
 table_alone s t [] = t
 table_alone s t (c ∷ cs) = table_alone s (table_after_call s t c) cs
 
--- the table of operator k: the table that results if, of the history h, only the calls of this operator are applied to the table t
+-- the table of operator k: the table that results if only those calls of the history h that are calls of this operator are applied to the table t
 abbrev pub table_of_operator : SettingData → List Row → List EntryData → ℕ → List Row
 table_of_operator s t h k = table_alone s t (calls_of (of_operator k h))

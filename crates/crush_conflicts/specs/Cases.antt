@@ -12,18 +12,18 @@ pub record FoundData : Type 0 where
   pub name : List ℕ
   pub item : Option ItemData
 
--- an item: the name with which the item's line begins, and what is said about the item by the table before the run, by each operator's table, and by the table after the run. None stands for a table that doesn't have the item
+-- an item: the name with which the item's line begins, and what is said about the item by the table before the run, by each operator's table, and by the table after the run. If a table doesn't have the item, its value is none
 pub record CaseData : Type 0 where
   pub name : List ℕ
   pub before : Option ItemData
   pub alone : List FoundData
   pub after : Option ItemData
 
--- CHANGES: the aspects that an operator changes. In these aspects, the item in the operator's table differs from the item before the run
+-- CHANGES: the aspects that an operator changes: those in which the item in the operator's table differs from the item before the run
 abbrev pub changes_of : List Row → CaseData → FoundData → Aspects
 changes_of t c x = differences t x.item c.before
 
--- LOST: the aspects in which an operator has lost a change. The operator changes these aspects, and the item in the operator's table also differs in them from the item after the run
+-- LOST: the aspects in which an operator has lost a change. In these aspects, the item in the operator's table differs both from the item before the run and from the item after the run
 abbrev pub lost_of : List Row → CaseData → FoundData → Aspects
 lost_of t c x = of_both (changes_of t c x) (differences t x.item c.after)
 

@@ -34,12 +34,12 @@ item_values s t told x =
     value_if told.presence (codes "made") ++ value_if told.kind (codes "as " ++ type_word s x.view.id x.view.kind) ++ value_if told.place (codes "in " ++ place_word t x)
     ++ value_if told.weight (codes "weight " ++ weight_text x.view.weight) ++ value_if told.name (codes "called " ++ x.view.name) ++ value_if told.class (codes "class " ++ class_or_none x.view.class)
 
--- the values of an item that the table may not have. If the table doesn't have the item, the only value is `removed`, and only if `told` has the aspect `presence`. Each value follows `, `
+-- the values of an item that the table may not have. If the table doesn't have the item, the only value is `removed`, and only if `told` has the aspect `presence`. Before each value comes `, `
 unfoldable pub values : SettingData → List Row → Aspects → Option ItemData → List ℕ
 values s t told None = value_if told.presence (codes "removed")
 values s t told (Some x) = item_values s t told x
 
--- texts without the separator before the first of them. Each of the texts follows a separator of two bytes
+-- texts without the separator before the first of them. A separator of two bytes comes before each of the texts
 abbrev pub joined : List ℕ → List ℕ
 joined text = drop 2 text
 

@@ -58,8 +58,9 @@ fn make_alone<A: Allocator + Clone>(map: &mut CrushMap<A>, call: &Call) -> Resul
     Ok(())
 }
 
-/// Returns the number of changes for which a call is not refused as stale. For a guarded batch,
-/// this is the number in the guard. Any number would do for the other calls.
+/// Returns the number of earlier changes with which a call must be applied, so that it isn't
+/// refused as stale. For a guarded batch, this is the number in the guard. For the other calls, the
+/// number doesn't matter.
 fn expected_changes(call: &Call) -> u32
     ensures { result ≡ expected_changes call.now }
 {

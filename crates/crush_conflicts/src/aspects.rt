@@ -5,7 +5,7 @@ ghost use Rattle.crush_conflicts.specs.Aspects.{is_some_aspect, no_aspects, of_b
 
 /// A set of aspects of an item. An aspect is one of the six things that a map says about an item:
 /// whether the item exists, its type, its place, its weight, its name or its class. Each field is
-/// true if the set has the aspect for which the field stands.
+/// about one aspect, and is true if the set has this aspect.
 #[derive(Clone, Copy, Debug, PartialEq, Eq)]
 pub(crate) struct Aspects {
     /// Whether the map has the item.
@@ -34,8 +34,8 @@ impl Aspects {
         }
     }
 
-    /// Returns the set that has only the aspect `presence`. These are the aspects of an item that a
-    /// map doesn't have.
+    /// Returns the set that has only the aspect `presence`. This is the set of aspects of an item
+    /// that a map doesn't have.
     pub(crate) fn presence() -> Aspects
         ensures { result ≡ only_presence }
     {

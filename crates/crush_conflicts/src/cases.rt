@@ -25,7 +25,7 @@ pub(crate) struct Found<'r, 'a, A: Allocator> {
 }
 
 impl<'r, 'a, A: Allocator> Found<'r, 'a, A> {
-    /// Returns what the map says about the item, or `None` if the map doesn't have it.
+    /// Returns what the map says about the item, or `None` if the map doesn't have the item.
     pub(crate) fn seen(&self) -> Option<Seen<'a>>
         ensures { option_map seen_data result ≡ (found_data self.now).item }
     {
@@ -33,11 +33,11 @@ impl<'r, 'a, A: Allocator> Found<'r, 'a, A> {
     }
 }
 
-/// An item, and what the maps of a run say about it. `None` stands for a map that doesn't have the
-/// item.
+/// An item, and what the maps of a run say about the item. If a map doesn't have the item, its
+/// value is `None`.
 #[derive(Drop)]
 pub(crate) struct Case<'r, 'a, A: Allocator> {
-    /// The name of the item, as its line in the text of the lost changes begins.
+    /// The name of the item, with which its line in the text of the lost changes begins.
     pub name: &'a str,
     /// What the map before the run says about the item.
     pub before: Option<Seen<'a>>,
@@ -48,8 +48,8 @@ pub(crate) struct Case<'r, 'a, A: Allocator> {
 }
 
 impl<'r, 'a, A: Allocator> Case<'r, 'a, A> {
-    /// Returns the aspects that an operator changes. In these aspects, the item in the operator's
-    /// map differs from the item before the run.
+    /// Returns the aspects that an operator changes: those in which the item in the operator's map
+    /// differs from the item before the run.
     fn changes_of(&self, known: &KnownItems<'_, A>, found: &Found<'_, '_, A>) -> Aspects
         ensures { (t : List Row) → Stands known.now t
             → result ≡ changes_of t (case_data self.now) (found_data found.now) }
@@ -58,8 +58,8 @@ impl<'r, 'a, A: Allocator> Case<'r, 'a, A> {
         differences(known, &item, &self.before)
     }
 
-    /// Returns the aspects in which an operator has lost a change. The operator changes these
-    /// aspects, and the item in the operator's map also differs in them from the item after the
+    /// Returns the aspects in which an operator has lost a change. In these aspects, the item in
+    /// the operator's map differs both from the item before the run and from the item after the
     /// run.
     fn lost_of(&self, known: &KnownItems<'_, A>, found: &Found<'_, '_, A>) -> Aspects
         ensures { (t : List Row) → Stands known.now t

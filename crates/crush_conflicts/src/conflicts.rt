@@ -33,14 +33,14 @@ pub(crate) struct MapAlone<'a, A: Allocator> {
 }
 
 /// Returns the text of the lost changes, which has a line for each item with a lost change. A
-/// change is lost if an operator's script makes it when only this script runs, and the map after
-/// the run doesn't have it.
+/// change is lost if an operator's script makes the change when only this script runs, and the map
+/// after the run doesn't have the change.
 ///
 /// `before` is the map before the run, and `after` is the map after the run. In this run, the
-/// operators of `scripts` made the calls of `entries`. Of each script, the function uses only the
-/// name. The lines of the items of `before` come first, in the order of the tree of `before`. The
-/// lines of new items follow, in ascending order of their names. `specs/Lines.antt` describes the
-/// form of a line. The function fails only if memory runs out.
+/// operators of `scripts` made the calls of `entries`. The function uses the name of each script,
+/// but not its calls. The lines of the items of `before` come first, in the order of the tree of
+/// `before`. The lines of new items follow, in ascending order of their names. `specs/Lines.antt`
+/// describes the form of a line. The function fails only if memory runs out.
 ///
 /// For each operator, the function applies the operator's calls to a copy of `before`. Then it
 /// looks up each item of `before` by its id, once in each of these maps and once in `after`. Each

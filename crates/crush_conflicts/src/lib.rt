@@ -1,5 +1,5 @@
 //! Finds the lost changes of a run with several scripts. A change is lost if an operator's script
-//! makes it, and the map after the run doesn't have it.
+//! makes the change when only this script runs, and the map after the run doesn't have the change.
 //!
 //! For each item and each operator, [`lost_changes`] compares three maps: the map before the run,
 //! the operator's map, and the map after the run. The operator's map is the map that results if

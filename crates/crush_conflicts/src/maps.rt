@@ -36,7 +36,7 @@ pub(crate) struct RunItems<'a, A: Allocator> {
 
 impl<'a, A: Allocator> RunItems<'a, A> {
     /// Looks up an item of the map before the run in all maps by its id, and returns what these
-    /// maps say about the item. Fails only if memory runs out.
+    /// maps say about the item. The function fails only if memory runs out.
     pub(crate) fn old_case<'r>(
         &'r self,
         alloc: Global,
@@ -77,7 +77,7 @@ impl<'a, A: Allocator> RunItems<'a, A> {
     }
 
     /// Looks up the new item with this name in each operator's map and in the map after the run,
-    /// and returns what these maps say about the item. Fails only if memory runs out.
+    /// and returns what these maps say about the item. The function fails only if memory runs out.
     pub(crate) fn new_case<'r>(
         &'r self,
         alloc: Global,

@@ -16,8 +16,8 @@ use std::alloc::{AllocError, Allocator, Global};
 
 impl<'a, A: Allocator> RunItems<'a, A> {
     /// Returns the names of all new items of the operators' maps, in ascending order. If new items
-    /// of several maps have the same name, the list has this name several times. Fails only if
-    /// memory runs out.
+    /// of several maps have the same name, the list has this name several times. The function fails
+    /// only if memory runs out.
     pub(crate) fn new_names(&self, alloc: Global) -> Result<Vec<&'a str>, AllocError>
         ensures { IfOk result (λ names. (t : List Row) (os : List OperatorData)
             → Stands self.now.before t → Pairwise IsOperator os self.now.operators.items

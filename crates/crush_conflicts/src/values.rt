@@ -27,8 +27,8 @@ pub(crate) struct Naming<'n, 'a, A: Allocator> {
 
 impl<'n, 'a, A: Allocator> Naming<'n, 'a, A> {
     /// Appends the values that an item has for the aspects in `told`, each after a comma and a
-    /// space. If the item is `None`, the only possible value is `removed`, which stands for the
-    /// aspect `presence`.
+    /// space. If the item is `None`, the only possible value is `removed`, which is appended if
+    /// `told` has the aspect `presence`.
     #[tactic(auto, unfolding(crate::specs::Lines::values))]
     pub(crate) fn push_values(
         &self,

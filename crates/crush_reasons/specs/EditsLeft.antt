@@ -22,7 +22,7 @@ abbrev pub refused_index : Reply → Option ℕ
 refused_index (BatchRefused index r) = Some index
 refused_index reply = None
 
--- the place of the refused edit of the entry `e`; empty if the entry has no refused edit of a batch. The entries `before` come before `e` in the history. The function `head` gives the place of an edit. Its arguments are the index of an operator, and the number of the edit among all edits of this operator, from 0
+-- the place of the refused edit of the entry `e`, as it is printed; empty if the entry has no refused edit of a batch. The entries `before` come before `e` in the history. The function `head` gives the place of an edit. The arguments of `head` are the index of an operator, and the number of the edit among all edits of this operator, from 0
 abbrev pub entry_place : (ℕ → ℕ → List ℕ) → List EntryData → EntryData → List ℕ
 entry_place head before e = option_map_or (λ index. head e.operator (edits_given e.operator before + index)) (refused_index e.reply) []
 
@@ -30,7 +30,7 @@ entry_place head before e = option_map_or (λ index. head e.operator (edits_give
 abbrev pub looks_behind : List EntryData → Bool
 looks_behind before = nat_lt (refusals before) MOST_LOOKS
 
--- HEAD: what the reason for an entry depends on, besides the entry and the map. `place` is the place of the refused edit of a batch, as it is printed, and `looks` says whether the map is searched for similar names
+-- HEAD: the values that are needed for the reason for an entry, besides the entry and the map. `place` is the place of the refused edit of a batch, as it is printed, and `looks` says whether the map is searched for similar names
 pub record HeadData : Type 0 where
   pub place : List ℕ
   pub looks : Bool

@@ -26,7 +26,7 @@ first_of (w ∷ ws) = w.text
 abbrev pub word_at : List ℕ → ℕ → List ℕ
 word_at bytes place = first_of (words 0 (drop place bytes)).words
 
--- the first two of these words, with a space between them, or as many words as there are
+-- the first two of these words, with a space between them. If there are fewer than two words, all of them
 abbrev pub two_of : List Word → List ℕ
 two_of [] = []
 two_of (v ∷ []) = v.text

@@ -138,7 +138,7 @@ wrong_text due.End word = codes "unexpected extra word " ++ told word
 unfoldable pub misfit_text : Misfit → List ℕ → List ℕ → List ℕ
 misfit_text m form word = if length word == 0 then word_in_line m.word form ++ codes " is missing" else wrong_text m.due word
 
--- the form of a line as it comes before the reason, with `: ` after it; nothing if the line has no form
+-- the form of a line, followed by `: `, which a message prints before the reason; nothing if the line has no form
 unfoldable pub form_head : List ℕ → List ℕ
 form_head form = if length form == 0 then form else form ++ codes ": "
 

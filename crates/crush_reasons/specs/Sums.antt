@@ -21,7 +21,7 @@ sums_of none = []
 sums_of (device d rest) = sums_of rest
 sums_of (bucket h w m k rest) = sums_of k ++ (sum h.id w ∷ sums_of rest)
 
--- the sums are those of a table's buckets: there is one for each bucket, it is the bucket's weight in the table, and the sums are sorted by the distances of the buckets' ids from 0
+-- the sums are those of a table's buckets. For each bucket of the table there is one sum, which is the bucket's weight in the table. The sums are sorted by the distances of the buckets' ids from 0
 pub record AreSums (t : List Row) (sums : List Sum) : Type 0 where
   pub told : All (λ (s : Sum). weight_of t (Bucket s.bucket) ≡ Some s.weight) sums
   pub each : (b : ℕ) → sum_by (λ (s : Sum). one_if (s.bucket == b)) sums ≡ count_by (λ (r : Row). same_id r.id (Bucket b)) t

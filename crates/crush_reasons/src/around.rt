@@ -2,9 +2,9 @@
 //! is defined.
 //!
 //! A place is the index of a byte of the text, from 0. A bucket or a rule is *open* at a place if
-//! its `{` comes before the place, and its `}` doesn't. Both searches end early at a byte that
-//! isn't in a comment and is allowed only there, and at a word of more than 255 bytes: what follows
-//! is ignored.
+//! its `{` comes before the place, and its `}` doesn't. Both searches end early in two cases, and
+//! ignore the rest of the text: at a byte outside of comments that is allowed only in comments, and
+//! at a word of more than 255 bytes.
 
 ghost use Rattle.std.specs.Prelude.{◌≡◌};
 ghost use Rattle.crush_units.specs.Words.{words};
@@ -21,9 +21,9 @@ pub(crate) struct Around {
     /// The place of the first word of the bucket or rule whose `{` was read last, or 0 if no `{`
     /// was read.
     pub(crate) head: usize,
-    /// Where the second-to-last word before the given place begins, or 0 if there is none.
+    /// Where the second-to-last word before the given place begins, or 0 if there is no such word.
     pub(crate) before: usize,
-    /// Where the last word before the given place begins, or 0 if there is none.
+    /// Where the last word before the given place begins, or 0 if there is no such word.
     pub(crate) last: usize,
 }
 

@@ -42,7 +42,7 @@ fn history_edits(alloc: Global, entries: &[Entry]) -> Result<Vec<Edit>, AllocErr
 /// edits that follow one another can have one line together, even if they are in calls of different
 /// operators.
 ///
-/// `opening` is the map before the first call. Fails if memory runs out.
+/// `opening` is the map before the first call. The function fails only if memory runs out.
 pub fn ceph_text(
     alloc: Global,
     opening: CrushMap<Global>,

@@ -157,9 +157,9 @@ fn push_edits_hints(
 }
 
 /// If the call of the entry created more buckets than it has `add-bucket` commands, appends the
-/// history line of the entry. If `looks` is set, the hints for the call's edits follow. `map` must
-/// be the map before the call. If the call changed its map, this function applies the call's edits
-/// to `map`, so that `map` is then the map after the call.
+/// history line of the entry. If `looks` is set, the hints for the call's edits follow after this
+/// line. `map` must be the map before the call. If the call changed its map, this function applies
+/// the call's edits to `map`, so that `map` is then the map after the call.
 fn push_created(
     alloc: Global,
     looks: bool,
@@ -249,7 +249,8 @@ fn push_entries(
 /// later call.
 ///
 /// `opening` is the map before the first call. `scripts` are the scripts of the job in their order,
-/// and the operator of each entry is the index of one of them. Fails if memory runs out.
+/// and the operator of each entry is the index of one of them. The function fails only if memory
+/// runs out.
 pub fn created_text(
     alloc: Global,
     opening: CrushMap<Global>,

@@ -37,8 +37,10 @@ fn refused_index(reply: Reply) -> Option<usize>
     }
 }
 
-/// For each script of a job, the numbers of the lines with those edits of the script that are left.
-/// `EditsLeft::pass` removes the lines of the edits of an entry.
+/// For each script of a job, the numbers of the lines with those edits of the script that are left,
+/// one number for each edit. A walk over the entries of a history calls `EditsLeft::pass` for each
+/// entry, which removes the lines of the entry's edits. So the edits that are left are those of the
+/// entries that the walk hasn't passed yet.
 #[derive(Drop)]
 pub(crate) struct EditsLeft<'a> {
     lines: Vec<&'a [u32]>,

@@ -44,10 +44,10 @@ fn before_edit(index: usize, edits: &[Edit]) -> &[Edit]
     }
 }
 
-/// What the history line of an entry and the reason for its refusal depend on, besides the entry
-/// and the map. `number` is the entry's number in the history, from 1. `operator` is the name of
-/// the entry's operator. `place` is the place of the refused edit of a batch, or `None` if no place
-/// is known. `looks` says whether to search the map for similar names.
+/// The values that are needed for the history line of an entry and for the reason for its refusal,
+/// besides the entry and the map. `number` is the entry's number in the history, from 1. `operator`
+/// is the name of the entry's operator. `place` is the place of the refused edit of a batch, or
+/// `None` if no place is known. `looks` says whether to search the map for similar names.
 #[derive(Clone, Copy)]
 struct EntryHead<'a> {
     number: u32,
@@ -279,7 +279,7 @@ struct Subject<'a, O> {
 ///
 /// `opening` is the map before the first call. `scripts` are the scripts of the job in their order,
 /// and the operator of each entry is the index of one of them. `lines` describes the lines of this
-/// job. Fails if memory runs out.
+/// job. The function fails only if memory runs out.
 pub fn explained_job<O: Locates>(
     alloc: Global,
     lines: JobLines<'_, O>,

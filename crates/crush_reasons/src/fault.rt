@@ -15,8 +15,8 @@ use crush_script::{JobFault, placed_word};
 use crush_text::TextFault;
 use std::alloc::{AllocError, Global};
 
-/// Appends the reason for a fault of a line that comes from a file, and not from the program
-/// itself.
+/// Appends the reason for a fault of a line. The line comes from the input, and wasn't put there by
+/// the program itself.
 fn push_own_reason(fault: JobFault, line: &[u8], text: &mut Vec<u8>) -> Result<(), AllocError>
     ensures { OnOk result (text.new.items ≡ text.old.items ++ own_reason fault line.now) }
 {
@@ -199,12 +199,12 @@ pub fn fault_line(bytes: &[u8], fault: JobFault) -> usize
 /// Returns the place of a fault of a job, followed by a sentence that says what is wrong or what is
 /// expected.
 ///
-/// For a fault of the map's text, and for a word that doesn't fit in a line of a script, the result
-/// has the line's number, the column, a part of the line, and `^` below the place. For any other
-/// fault of a line, and for a line that the program put before a file's first line, the result has
-/// the line's number and the line. For a fault without a place, such as too many bytes, the result
-/// has the sentence alone. If the map's text ends too early, the place is the beginning of the
-/// text's last word.
+/// The result depends on the kind of the fault. For a fault of the map's text, and for a word that
+/// doesn't fit in a line of a script, the result shows the line's number, the column, a part of the
+/// line, and `^` below the place. For any other fault of a line, and for a line that the program
+/// put before a file's first line, the result shows the line's number and the line. For a fault
+/// without a place, such as too many bytes, the result is only the sentence. If the map's text ends
+/// too early, the place is the beginning of the text's last word.
 ///
 /// `bytes` are the whole job, and `origin` is the file from which the line with the fault comes. If
 /// the name of this file isn't empty, it comes before the line's number. The line's number counts
@@ -212,7 +212,7 @@ pub fn fault_line(bytes: &[u8], fault: JobFault) -> usize
 /// Columns count bytes, from 1. At most 72 bytes of the line are shown. They are shown from the
 /// line's beginning, or from 40 bytes before the place if more than 40 bytes of the line come
 /// before the place. `shown_byte` says how each byte of the line and of the file's name is shown.
-/// Fails if memory runs out.
+/// The function fails only if memory runs out.
 pub fn fault_text(
     alloc: Global,
     origin: Origin<'_>,
@@ -230,7 +230,7 @@ pub fn fault_text(
 
 /// Returns the lines with which [`fault_text`] shows the place of a fault of a map's text, without
 /// the sentence that follows after them. `bytes` are the whole job. `origin` is the file from which
-/// the line with the fault comes. Fails if memory runs out.
+/// the line with the fault comes. The function fails only if memory runs out.
 pub fn flaw_place_text(
     alloc: Global,
     origin: Origin<'_>,

@@ -1,5 +1,5 @@
 //! Finds the calls that created more buckets than they have `add-bucket` commands. A location in
-//! such a call named a bucket that wasn't in the map, so the call created this bucket, too.
+//! such a call named a bucket that wasn't in the map, so the call also created this bucket.
 
 ghost use Rattle.std.specs.Prelude.{◌≡◌, ◌≤◌, ◌^◌, ◌<◌, ◌++◌, IfOk, OnOk, length};
 ghost use Rattle.std.specs.List.{count_by};
@@ -92,7 +92,7 @@ fn push_made(
 /// commands. Each line has the number that its call has in the whole history.
 ///
 /// `scripts` are the scripts of the job in their order, and the operator of each entry is the index
-/// of one of them. Fails if memory runs out.
+/// of one of them. The function fails only if memory runs out.
 pub fn made_text(
     alloc: Global,
     scripts: &[Script],

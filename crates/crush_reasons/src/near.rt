@@ -1,4 +1,6 @@
 //! Finds an item or a type of the map whose name is similar to a name that the map doesn't have.
+//! Two names are similar if at most one byte differs, one byte is missing or extra, or two
+//! neighbouring bytes are exchanged, or if the names differ only in upper and lower case.
 
 ghost use Rattle.std.specs.Prelude.{◌≡◌, ◌≤◌, ◌<◌, List, IfOk, IsTrue, drop, length, map as each};
 ghost use Rattle.std.specs.Option.{option_map};
@@ -117,7 +119,7 @@ pub(crate) fn near_name<'a>(
 }
 
 /// Returns the name of the first item of the map whose name is similar to this name. Returns `None`
-/// if there is none, or if `looks` is false, which means that the map isn't searched.
+/// if there is no such item, or if `looks` is false, which means that the map isn't searched.
 pub(crate) fn near_if<'a>(
     alloc: Global,
     looks: bool,
@@ -146,7 +148,7 @@ fn near_kind<'a>(setting: &'a Setting, name: &str) -> Option<&'a str>
 }
 
 /// Returns the name of the first type of the map whose name is similar to this name. Returns `None`
-/// if there is none, or if `looks` is false, which means that the types aren't searched.
+/// if there is no such type, or if `looks` is false, which means that the types aren't searched.
 pub(crate) fn near_kind_if<'a>(looks: bool, setting: &'a Setting, name: &str) -> Option<&'a str>
     ensures { option_map (λ near. near.now) result ≡ near_kind_if looks setting.now name.now }
 {

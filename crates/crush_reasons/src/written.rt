@@ -22,7 +22,8 @@ fn is(word: &[u8], key: &[u8]) -> bool
     word == key
 }
 
-/// Whether the text after a word is between braces. `inside` says whether the word itself is.
+/// Whether the text after a word is between braces. `inside` says whether the word itself is
+/// between braces.
 fn is_inside(inside: bool, word: &[u8]) -> bool
     ensures { result ≡ is_inside inside word.now }
 {
@@ -251,7 +252,7 @@ fn push_returns(bytes: &[u8], text: &mut Vec<u8>) -> Result<(), AllocError>
 /// so.
 ///
 /// `bytes` are the text of a map without scripts, and `map` is the map that was read from this
-/// text. Fails if memory runs out.
+/// text. The function fails only if memory runs out.
 pub fn written_text(
     alloc: Global,
     map: &CrushMap<Global>,

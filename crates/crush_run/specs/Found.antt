@@ -21,13 +21,13 @@ under_of (output.Changes old) = name_text old.part.under
 under_of (output.To target) = name_text target.under
 under_of what = None
 
--- the name of the type of the buckets below which a tree isn't printed, if there is one
+-- the name of a type, if the tree leaves out what is below the buckets of this type; otherwise none
 abbrev pub down_to_of : Output → Option (List ℕ)
 down_to_of (output.Tree part) = name_text part.down_to
 down_to_of (output.Changes old) = name_text old.part.down_to
 down_to_of what = None
 
--- the name of the class whose devices alone are counted in a tree, if there is one
+-- the name of a class, if only the devices of this class count in the tree; otherwise none
 abbrev pub class_of : Output → Option (List ℕ)
 class_of (output.Tree part) = name_text part.class
 class_of (output.Changes old) = name_text old.part.class

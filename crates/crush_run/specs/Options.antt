@@ -16,7 +16,7 @@ abbrev pub IsOptionsFault : (List ℕ → Option (List ℕ)) → Options → Opt
 IsOptionsFault content options all (run.SecondMap which fault) = IfSome all HasJob × IsOutputFault content options.output_spec (run.SecondMap which fault)
 IsOptionsFault content options all fault = IsRunFault options.mode all fault
 
--- there is an output that is as the options select it (`IsOutputOf`), and the run of the job ends as Ends says for this output. The notes of the run refer to the text of these bytes. `origin` says from which file each line comes.
+-- there is an output that the options select (`IsOutputOf`), and the run of the job ends as Ends says for this output. The notes of the run refer to the text of these bytes. `origin` says from which file each line comes.
 pub record EndsWithOutput (content : List ℕ → Option (List ℕ)) (options : Options) (origin : ℕ → OriginData) (bytes : List ℕ) (job : JobData) (result : Result Summary RunFault) (old new : Option (List ℕ)) (notes : List ℕ) : Type 0 where
   pub what : Output
   pub output : IsOutputOf content options.output_spec what

@@ -50,7 +50,7 @@ abbrev pub has_changed : Bool → Option (List ℕ) → PlainMap → PlainMap �
 has_changed false under old new = is_changed_by_id (named_item new.table under) old new
 has_changed true under old new = is_changed_by_name under old new
 
--- DIFFERS: whether there is something to report about the map that has this setting and this table after the history h. If the output is what has changed since another map, this is so if anything has changed in the selected part. If the output is a plan, this is so if the plan has an edit or leaves a difference. For any other output, this is so if an entry of h changed the map.
+-- DIFFERS: whether there is something to report about the map that has this setting and this table after the history h. If the output is what has changed since another map, there is something to report if anything has changed in the selected part. If the output is a plan, there is something to report if the plan has an edit or leaves a difference. For any other output, there is something to report if an entry of h changed the map.
 abbrev pub differs_of : Output → PlanData → SettingData → List Row → List EntryData → Bool
 differs_of (output.Since old) plan s t h = has_changed old.by_name (name_text old.under) (plain_map old.map.setting (rows_of old.map.forest)) (plain_map s t)
 differs_of (output.Changes old) plan s t h = is_changed_by_id (named_item t (name_text old.part.under)) (plain_map old.map.setting (rows_of old.map.forest)) (plain_map s t)
@@ -70,7 +70,7 @@ summary_of mode what plan job h =
 -- ENDS: how a run of the job ends. There is a history of such a run, and a plan if one is selected, such that:
 -- `writes`: after success the whole output is written, after a failed write a proper prefix of it, otherwise nothing;
 -- `summary`: after success the summary is that of the history;
--- `losses`: `lost` has the changes that are lost in the run, if the run looks for them. This isn't said if the run ended with a fault of `IsEarlyFault`: such a run has ended before its scripts had run to their end, or memory has run out, which may also happen after the scripts;
+-- `losses`: `lost` has the changes that are lost in the run, if the run looks for them. This field says nothing if the run ended with a fault of `IsEarlyFault`: such a run has ended before all scripts had run, or memory has run out, which may also happen after the scripts;
 -- `strict`, `no_make`, `lossless`, `found`, `whole`: the result agrees with the refused entries, the entries that created more buckets than their calls have `add-bucket` commands, the lost changes, the names that the map has, and the differences that remain after the plan;
 -- `noted`: the notes are those of the history and this result, and refer to the text `text`.
 pub record Ends (mode : Mode) (what : Output) (job : JobData) (text : TextData) (result : Result Summary RunFault) (old new : Option (List ℕ)) (notes : List ℕ) : Type 0 where

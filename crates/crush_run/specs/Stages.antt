@@ -84,7 +84,7 @@ pub record HaveRun (in_turn : Bool) (job : JobData) (after : MapData) (h : List 
 abbrev pub RunsScripts : Bool → MapData → List ScriptData → MapData → List EntryData → Type 0
 RunsScripts in_turn map scripts after h = (job : JobData) → MapStands map job.setting job.table → scripts ≡ job.scripts → HaveRun in_turn job after h
 
--- whether a run still needs the map before its scripts when the scripts have run: to explain refusals and created buckets, to look for lost changes, or to print the commands that changed the map
+-- whether a run still needs the map from before its scripts, after the scripts have run: to explain refusals and created buckets, to look for lost changes, or to print the commands that changed the map
 abbrev pub needs_opening : Mode → Output → Bool
 needs_opening mode output.AsCeph = true
 needs_opening mode what = mode.explain || mode.conflicts
@@ -123,8 +123,8 @@ abbrev pub notes_after : Result Summary RunFault → EndNotes → List ℕ
 notes_after (Ok s) end_notes = end_notes.calls.items
 notes_after (Err fault) end_notes = notes_after_fault fault end_notes
 
--- how a run ends that has, after its scripts, the map m, the history h and a plan.
--- `writes`: the output is written, or a part of it, as IsWritten says;
+-- how a run ends if its scripts have run, and resulted in the map m, the history h and a plan.
+-- `writes`: all, a part or nothing of the output was written, as IsWritten says for the result;
 -- `summary`: after success the summary is that of the history;
 -- `nothing`: nothing is written unless the run succeeds or fails to write;
 -- `fault`: which faults are possible;

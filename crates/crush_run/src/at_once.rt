@@ -20,9 +20,9 @@ use std::thread::Threads;
 /// Runs the scripts at the same time, each in a thread of its own. Returns the history, and the map
 /// after the scripts, but no copy of the map before them.
 ///
-/// The operator of the script with index k has the number k in the history. There are between 1 and
-/// [`MOST_OPERATORS`](crush_units::limits::MOST_OPERATORS) scripts. `gate` is called before and
-/// after each call of an operator; [`NoGate`](crate::NoGate) does nothing.
+/// The operator of the script with index k has the number k in the history. The caller must pass
+/// between 1 and [`MOST_OPERATORS`](crush_units::limits::MOST_OPERATORS) scripts. `gate` is called
+/// before and after each call of an operator; [`NoGate`](crate::NoGate) does nothing.
 ///
 /// If a thread can't be started, the function waits until the threads that are already running have
 /// finished, and fails with [`RunFault::Thread`]. The only other fault is [`RunFault::Memory`]:

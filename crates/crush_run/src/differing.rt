@@ -57,9 +57,10 @@ fn has_changed(alloc: Global, old: &OldMap, map: &CrushMap<Global>) -> Result<bo
     is_changed_by_id(alloc, under, &old.map, map)
 }
 
-/// Whether there is something to report. If the output is what has changed since another map, this
-/// is so if anything has changed. If the output is a plan, this is so if the plan has an edit or
-/// leaves a difference. With any other output, this is so if a call has changed the map.
+/// Whether there is something to report. If the output is what has changed since another map, there
+/// is something to report if anything has changed in the selected part. If the output is a plan,
+/// there is something to report if the plan has an edit, or if differences remain after the plan.
+/// With any other output, there is something to report if a call has changed the map.
 fn differs(alloc: Global, output: &Output, completed: &CompletedRun<'_>) -> Result<bool, AllocError>
     requires { length completed.now.entries.now ≤ MOST_ENTRIES }
     ensures { IfOk result (λ differs. (t : List Row) → Stands completed.now.map.now.forest t

@@ -26,9 +26,9 @@ struct InTurn<'t, G, R> {
 }
 
 impl<'t, G: Gate, R: Wait> InTurn<'t, G, R> {
-    /// Makes the calls of one script in order. Stops with [`RunFault::Memory`] at the first call
-    /// that can't be made, because memory has run out or the history is full. Each call is moved
-    /// into its entry of the history.
+    /// Makes the calls of one script in order. If a call can't be made, because memory has run out
+    /// or the history is full, the function stops at this call, and fails with
+    /// [`RunFault::Memory`]. Each call is moved into its entry of the history.
     fn run_script(
         &self,
         book: &mut Book<Global, WithoutSnapshot>,

@@ -45,9 +45,9 @@ fn count_lines(text: &[u8]) -> usize
 
 /// Returns the lost changes of a run, or none if the run doesn't look for them.
 ///
-/// `opening` is the map before the run. It must be there if `conflicts` is set. `map` is the map
-/// after the run, in which the operators of `scripts` made the calls of `entries`. An `Err` says
-/// that memory ran out.
+/// `opening` is the map before the run. If `conflicts` is set, `opening` must not be `None`. `map`
+/// is the map after the run, in which the operators of `scripts` made the calls of `entries`. An
+/// `Err` says that memory ran out.
 pub(crate) fn lost_if_requested(
     alloc: Global,
     conflicts: bool,

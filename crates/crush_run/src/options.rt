@@ -20,20 +20,22 @@ use std::thread::Threads;
 
 /// Runs a job as [`run_job`](crate::run_job) does. The job is read from the file that the options
 /// name, or from `input` if they name no file. If they name a file, nothing is read from `input`.
-/// The scripts of further files are appended to the job. With these scripts, the job has at most
-/// 16,777,216 bytes. If a file or `input` can't be opened or read, the fault is [`RunFault::Read`].
+/// The scripts of further files are appended to the job. With these scripts, the job may have at
+/// most 16,777,216 bytes. If a file or `input` can't be opened or read, the fault is
+/// [`RunFault::Read`].
 ///
 /// If the options have `--since` or `--to`, the map of this option is read after the job, from a
-/// file of at most 16,777,216 bytes. If the map can't be read, the fault is
-/// [`RunFault::SecondMap`]. The other faults are those of [`run_job`](crate::run_job).
+/// file of at most 16,777,216 bytes. If this file can't be read, is longer, or isn't the text of a
+/// map, the fault is [`RunFault::SecondMap`]. The other faults are those of
+/// [`run_job`](crate::run_job).
 ///
 /// Before a script of a further file is appended, a line feed is added if the job so far doesn't
-/// end in one. The line `%operator NAME` is added too, unless the script already begins with a line
-/// that starts with `%`. (Empty lines and comments before that line don't count.) NAME is the last
-/// part of the file's path, up to its first `.`. If NAME isn't a valid operator name, the line is
-/// `%operator` alone, which the parser rejects as [`BadLine`](crush_script::JobFault::BadLine). If
-/// scripts come from files, the notes about a fault give the place of the fault in the file that
-/// has it.
+/// end in a line feed. The line `%operator NAME` is added too, unless the script already begins
+/// with a line that starts with `%`. (Empty lines and comments before that line don't count.) NAME
+/// is the last part of the file's path, up to its first `.`. If NAME isn't a valid operator name,
+/// the line is `%operator` alone, which the parser rejects as
+/// [`BadLine`](crush_script::JobFault::BadLine). If scripts come from files, the notes about a
+/// fault give the place of the fault in the file that has it.
 pub fn run_options<H, F, R, W>(
     rt: &H,
     files: &F,

@@ -41,8 +41,8 @@ use std::io::Write;
 pub(crate) struct EndNotes {
     /// The notes of a run that succeeds, or ends because of a failed write or of a name that the
     /// map doesn't have. They are about the refused calls, if the run has `explain` or `strict`.
-    /// With `explain`, they are also about buckets whose weight in the map's text isn't the sum of
-    /// the weights of the devices below them.
+    /// With `explain`, they also have the notes on the map's text, which list the buckets whose
+    /// weight in this text isn't the sum of the weights of the devices below them.
     pub(crate) calls: Vec<u8>,
     /// The notes of an end with [`RunFault::Refused`]: `calls`, followed by the calls that created
     /// buckets in spite of `no_make`, and by the lost changes.
@@ -72,8 +72,9 @@ fn summary_of(completed: &CompletedRun<'_>, differs: bool) -> Summary
 
 /// Checks the conditions of the request, in this order: no call was refused, no call created more
 /// buckets than it has `add-bucket` commands, no change of an operator was lost, the map has each
-/// name that the output needs, and no difference remains after the plan. A condition that the
-/// request doesn't have isn't checked. Fails with the fault of the first condition that isn't true.
+/// name that the output needs, and no difference remains after the plan. A condition is checked
+/// only if the request has it: for example, that no call was refused is checked only with `strict`.
+/// Fails with the fault of the first condition that isn't true.
 fn check_conditions(request: &Request, completed: &CompletedRun<'_>) -> Result<(), RunFault>
     requires { length completed.now.entries.now ≤ MOST_ENTRIES }
     ensures fault { IfErr result (IsCheckFault request.now.mode) }
@@ -246,8 +247,8 @@ fn end_with(alloc: Global, outcome: Result<Summary, RunFault>, end_notes: EndNot
 }
 
 /// Creates the notes, checks the conditions of the request, and writes the output. The notes are
-/// created before anything is written. So memory can't run out for the notes after a part of the
-/// output was written.
+/// created before anything is written, so that memory can't run out for the notes after a part of
+/// the output was written.
 pub(crate) fn end_run<W: Write>(
     alloc: Global,
     request: &Request,

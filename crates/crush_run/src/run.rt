@@ -219,8 +219,8 @@ where
 /// - [`RunFault::Memory`]: memory ran out.
 ///
 /// The checks from `Refused` to `Differs` are made in this order, after all calls and before
-/// anything is written. The run takes at most 16,777,217 bytes from the reader, with at most
-/// 16,777,217 reads.
+/// anything is written. The run takes at most 16,777,217 bytes from the reader, and calls `read` at
+/// most 16,777,217 times.
 ///
 /// Names may come from an untrusted source, so they are hashed with random keys of the system. If
 /// the system provides no keys, the names are hashed without keys. The output doesn't depend on the
