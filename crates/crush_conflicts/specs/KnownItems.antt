@@ -1,4 +1,4 @@
--- When a list of items, and an index of this list by ids, agree with a forest.
+-- The condition that a list of items has the items of a forest, and that an index of this list by ids is right.
 use Rattle.std.specs.Prelude.{◌≡◌, ℕ, ◌<◌, ◌^◌, List, length, map}
 use Rattle.crush_model.specs.Forest.{ForestData}
 use Rattle.crush_model.specs.Stands.{Stands}

@@ -13,8 +13,8 @@ line_end bytes = if slice_index bytes (length bytes - 1) == 10 then [] else code
 abbrev pub is_line_blank : ℕ → Bool
 is_line_blank b = b == 32 || b == 9 || b == 13
 
--- whether the first line that has more than blanks and a comment begins with `%`; `starts` says whether these bytes begin a line, and
--- `comment` whether they begin inside a comment
+-- whether a script begins with a section: its first line that has more than blanks and a comment begins with `%`. The definition is about the rest of a script, after bytes
+-- that are only blanks, line feeds and comments. `starts` says whether this rest begins at the beginning of a line, and `comment` says whether it begins inside a comment
 abbrev pub begins_section_in : Bool → Bool → List ℕ → Bool
 begins_section_in starts comment [] = false
 begins_section_in starts comment (b ∷ bs) =

@@ -17,6 +17,6 @@ FirstMapsAreMaps = (maps : MapForm) (content : List ℕ → Option (List ℕ)) (
 abbrev pub OtherMapsAreMaps : Type 0
 OtherMapsAreMaps = (maps : MapForm) (map : MapData) (bytes : List ℕ) → MayBeVerbMap maps bytes → IsTextOf map bytes → IsVerbMap maps bytes
 
--- NO MAP IS REFUSED WITHOUT PARSING: if bytes are a map that the verb can use, then they may be a verb's map
+-- NO MAP IS REFUSED WITHOUT PARSING: if bytes are a map that the verb can use, then they also meet the conditions of `MayBeVerbMap`, which are tested without parsing
 abbrev pub VerbMapsMayBeMaps : Type 0
 VerbMapsMayBeMaps = (maps : MapForm) (bytes : List ℕ) → IsVerbMap maps bytes → MayBeVerbMap maps bytes

@@ -13,8 +13,8 @@ use thiserror::Error;
 pub struct KeptText<'a> {
     /// The bytes of the job. They are stored only with `explain`; otherwise this vector is empty.
     pub bytes: Vec<u8>,
-    /// For each script of the job, the numbers of the lines of the job that have its edits. The
-    /// first line of the job has the number 1.
+    /// For each script of the job, the numbers of the lines of the job that have the script's
+    /// edits, one number for each edit. The first line of the job has the number 1.
     pub lines: Vec<Vec<u32>>,
     /// The files from which the lines of the job come.
     pub origins: Origins<'a>,

@@ -293,8 +293,8 @@ fn second_map_reason(which: SecondMap, fault: SecondMapFault) -> &'static [u8]
     }
 }
 
-/// Returns the line that gives the reason why a run failed. It is empty if the run's notes have the
-/// reason.
+/// Returns the line that gives the reason why a run failed. The line is empty if the run's notes
+/// have the reason.
 fn fault_reason(fault: RunFault) -> &'static [u8]
     ensures { result.now ≡ fault_reason fault }
 {

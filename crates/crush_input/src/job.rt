@@ -68,8 +68,8 @@ pub fn job_of<'a, H: AllocGlobal + RandomSource>(
     }
 }
 
-/// Reads and parses a job: the file that the options name, followed by the scripts of the further
-/// files that they name.
+/// Reads and parses a job: the file that the options name, followed by the scripts in the further
+/// files that the options name.
 ///
 /// If the options name no file for the job, the job is read from `input`. At most 16,777,217 bytes
 /// are read from `input`, and none if the options name a file. If a file or `input` can't be opened

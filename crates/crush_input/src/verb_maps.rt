@@ -154,7 +154,8 @@ fn fault_of_flaw(maps: MapForm, bytes: &[u8], fault: TextFault) -> VerbMapFault
     VerbMapFault::Text(fault)
 }
 
-/// Parses the text of a map. If the verb can't use it, fails with the reason.
+/// Parses the text of a map. If the verb can't use this text as a map, the function fails with the
+/// reason.
 fn check_text<H: AllocGlobal + RandomSource>(
     rt: &H,
     maps: MapForm,
@@ -302,7 +303,8 @@ fn text_refusal(
     }
 }
 
-/// Parses the text of a verb's map. Fails if the verb can't use the map, or if memory runs out.
+/// Parses the text of a verb's map. The function fails if the verb can't use the map, or if memory
+/// runs out.
 ///
 /// The text may have at most 16,777,216 bytes. It must be the text of a map without scripts, and it
 /// must be complete if `maps` says so. If the text has a fault, the notes say where the fault is,
@@ -376,10 +378,10 @@ fn screened_map<H: AllocGlobal + RandomSource>(
 /// text of a map, as the law [`maps_of_runs_are_verb_maps`](crate::maps_of_runs_are_verb_maps)
 /// says. If the run fails, [`check_verb_map`] says whether the bytes have a fault.
 ///
-/// Fails if the file can't be opened or read, if its bytes don't have these properties, or if
-/// memory runs out. If the bytes don't have these properties, the function parses them with
-/// [`check_verb_map`], whose refusal says what is wrong. The note about a file that can't be opened
-/// or read always has the file's name, even if `shown` is empty.
+/// The function fails if the file can't be opened or read, if its bytes don't have these
+/// properties, or if memory runs out. If the bytes don't have these properties, the function parses
+/// them with [`check_verb_map`], whose refusal says what is wrong. The note about a file that can't
+/// be opened or read always has the file's name, even if `shown` is empty.
 pub fn read_verb_map<H: AllocGlobal + RandomSource, F: Opens>(
     rt: &H,
     files: &F,

@@ -11,8 +11,9 @@
 //! A *call* is an edit or a batch that an operator has sent. An *entry* of a history is a call with
 //! its reply. The functions [`made_text`] and [`created_text`] list the calls in which the location
 //! of an edit created a bucket. To explain the refused calls of a history, a function takes the map
-//! before the first call. It applies the edits of those calls that changed the map to this map once
-//! more, so it can look at the map as it was just before each refused edit.
+//! before the first call. Some calls of the history changed the map. The function applies the edits
+//! of these calls once more, in the order of the history. In this way, it has the map from just
+//! before each refused edit, and can look for the reason in this map.
 //!
 //! `crush_input` prints reasons with the functions of this crate, for example if `--explain` is
 //! given. With `--as-ceph`, `crush_run` uses the function [`ceph_text`] to print the commands that

@@ -15,7 +15,7 @@ looks_for_conflicts conflicts names = conflicts && nat_lt 1 (length names)
 abbrev pub line_count : List ℕ → ℕ
 line_count text = count_by (λ b. b == 10) text
 
--- LOST: if the run looks for lost changes, then `lost` has a line for each item with a lost change, and the number of these lines. A change is lost if it is in the table that the calls of one operator in the history h make alone from the table t, and isn't in the table z after the run. If the run doesn't look for lost changes, then `lost` has no lines.
+-- LOST: if the run looks for lost changes, then `lost` has a line for each item with a lost change, and the number of these lines. A change is lost if the calls of one operator in the history h make the change when only these calls are applied to the table t, and the table z after the run doesn't have the change. If the run doesn't look for lost changes, then `lost` has no lines.
 pub record AreLost (conflicts : Bool) (s : SettingData) (t : List Row) (names : List (List ℕ)) (h : List EntryData) (z : List Row) (lost : LostData) : Type 0 where
   pub lines : looks_for_conflicts conflicts names ≡ true → AreConflicts s t (operators_from s t h 0 names) z lost.lines
   pub none : looks_for_conflicts conflicts names ≡ false → lost.lines ≡ []

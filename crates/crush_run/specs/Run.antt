@@ -50,7 +50,7 @@ abbrev pub has_changed : Bool → Option (List ℕ) → PlainMap → PlainMap �
 has_changed false under old new = is_changed_by_id (named_item new.table under) old new
 has_changed true under old new = is_changed_by_name under old new
 
--- DIFFERS: whether there is something to report about the map that has this setting and this table after the history h. If the output is what has changed since another map, there is something to report if anything has changed in the selected part. If the output is a plan, there is something to report if the plan has an edit or leaves a difference. For any other output, there is something to report if an entry of h changed the map.
+-- DIFFERS: whether there is something to report about the map that has this setting and this table after the history h. If the output is what has changed since another map, there is something to report if anything has changed. If this output is restricted to an item (`--under`), only changes of this item and of the items below it in at least one of the maps count. The type `--down-to` and the class `--class` don't matter. If the output is a plan, there is something to report if the plan has an edit or leaves a difference. For any other output, there is something to report if an entry of h changed the map.
 abbrev pub differs_of : Output → PlanData → SettingData → List Row → List EntryData → Bool
 differs_of (output.Since old) plan s t h = has_changed old.by_name (name_text old.under) (plain_map old.map.setting (rows_of old.map.forest)) (plain_map s t)
 differs_of (output.Changes old) plan s t h = is_changed_by_id (named_item t (name_text old.part.under)) (plain_map old.map.setting (rows_of old.map.forest)) (plain_map s t)

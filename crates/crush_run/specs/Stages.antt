@@ -130,7 +130,7 @@ notes_after (Err fault) end_notes = notes_after_fault fault end_notes
 -- `fault`: which faults are possible;
 -- `strict`, `no_make`, `lossless`, `found`, `whole`: the result agrees with the refused entries, the entries that created more buckets than their calls have `add-bucket` commands, the changes that are lost, the names that the map has, and the differences that remain;
 -- `told`: the notes are those of this history and this result;
--- `noted`: without mention of the history, the notes are allowed for this result (`AreNotesOfResult`), from whichever files the lines of the job come.
+-- `noted`: the notes are allowed for this result (`AreNotesOfResult`), which doesn't mention the history. This is true for any files from which the lines of the job may come.
 pub record CompletedRunEnds (mode : Mode) (what : Output) (plan : PlanData) (adjusted : ℕ) (kept : Option MapData) (m : MapData) (lost : LostData) (text : TextData) (names : List (List ℕ)) (h : List EntryData) (result : Result Summary RunFault) (old new : Option (List ℕ)) (notes : List ℕ) : Type 0 where
   pub writes : (o t : List Row) → IsOpening mode what kept m.setting o → Stands m.forest t → IsWritten result old new (written_text mode what plan m.setting o t names h)
   pub summary : IfOk result (λ (s : Summary). (t : List Row) → Stands m.forest t → s ≡ summed adjusted (mode.exit_code && differs_of what plan m.setting t h) h)

@@ -58,9 +58,11 @@ fn has_changed(alloc: Global, old: &OldMap, map: &CrushMap<Global>) -> Result<bo
 }
 
 /// Whether there is something to report. If the output is what has changed since another map, there
-/// is something to report if anything has changed in the selected part. If the output is a plan,
-/// there is something to report if the plan has an edit, or if differences remain after the plan.
-/// With any other output, there is something to report if a call has changed the map.
+/// is something to report if anything has changed. If this output is restricted to an item
+/// (`--under`), only changes of this item count, and changes of the items that are or were below
+/// it. The type `--down-to` and the class `--class` don't matter. If the output is a plan, there is
+/// something to report if the plan has an edit, or if differences remain after the plan. With any
+/// other output, there is something to report if a call has changed the map.
 fn differs(alloc: Global, output: &Output, completed: &CompletedRun<'_>) -> Result<bool, AllocError>
     requires { length completed.now.entries.now ≤ MOST_ENTRIES }
     ensures { IfOk result (λ differs. (t : List Row) → Stands completed.now.map.now.forest t

@@ -66,8 +66,9 @@ fn write_changed<W: Write>(
 
 /// Writes the output as one JSON document, which contains the history if the request asks for it.
 /// The document of changes always matches items by their ids. A tree of changes has the same
-/// document as a list of changes. There is no document for Ceph's own commands, so they are written
-/// as text.
+/// document as a list of changes. The class of a tree is ignored, but no command line asks for a
+/// document and for a class. There is no document for Ceph's own commands, so they are written as
+/// text.
 pub(crate) fn write_document<W: Write>(
     alloc: Global,
     request: &Request,

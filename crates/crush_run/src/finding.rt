@@ -78,8 +78,8 @@ fn named_kind(name: Option<&str>, map: &CrushMap<Global>) -> Option<TypeId>
     }
 }
 
-/// Returns the part of the tree that is printed. A name that the map doesn't have is ignored, as if
-/// it weren't given.
+/// Returns the part of the tree that is printed. If the map has no item with the name of `--under`,
+/// or no type with the name of `--down-to`, this name is ignored.
 pub(crate) fn part_of(words: &TreePartSpec, map: &CrushMap<Global>) -> TreePart
     ensures { (t : List Row) → Stands map.now.forest t
         → result ≡ part_of words.now map.now.setting t }
@@ -150,8 +150,9 @@ fn has_class_of(output: &Output, map: &CrushMap<Global>) -> bool
     has_class(class_of(output), map) || had_class(output)
 }
 
-/// Fails if the map doesn't have a name that the output needs. The item is looked up first, then
-/// the type, and then the class.
+/// The function fails if the map doesn't have an item, a type or a class that the output needs. The
+/// item is looked up first, then the type, and then the class. The fault is about the first of them
+/// that isn't found.
 pub(crate) fn check_found(output: &Output, map: &CrushMap<Global>) -> Result<(), RunFault>
     ensures found { (t : List Row) → Stands map.now.forest t
         → IsFound output.now map.now.setting t result }

@@ -59,7 +59,8 @@ pub(crate) fn plan_if_requested(
     }
 }
 
-/// Fails if the run is strict and differences remain after the plan.
+/// Checks the plan of a strict run: the function fails if the run is strict and differences remain
+/// after the plan.
 pub(crate) fn check_whole(strict: bool, plan: &Plan) -> Result<(), RunFault>
     ensures whole { IsWhole strict (line_texts plan.now.rest.items) result }
     ensures fault { IfErr result (IsDiffersFault strict) }

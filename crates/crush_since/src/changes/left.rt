@@ -122,7 +122,8 @@ fn push_if_left<A: Allocator, B: Allocator>(
 
 /// Appends the row of a node of the old map whose item is no longer in its place. If the node is a
 /// bucket that the new map doesn't have at all, also appends the rows of the items that this bucket
-/// held, in the same way. So the rows end at each bucket that the new map still has.
+/// held. The same holds for each of these items that is such a bucket. If the new map still has a
+/// bucket, in another place, no rows below the bucket are appended here.
 fn push_stood<A: Allocator, B: Allocator>(
     both: &Both<'_, A, B>,
     node: &Node<A>,
