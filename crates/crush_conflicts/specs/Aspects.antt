@@ -5,7 +5,7 @@ use Rattle.crush_conflicts.specs.declared.aspects.Aspects.{Aspects}
 abbrev pub no_aspects : Aspects
 no_aspects = record { presence = false; kind = false; place = false; weight = false; name = false; class = false }
 
--- the set with only the aspect `presence`, which says whether a table has the item. This is the set of aspects of an item that a table doesn't have
+-- the set that has only the aspect `presence`, which is about whether a table has the item. This is the set of aspects of an item that a table doesn't have
 abbrev pub only_presence : Aspects
 only_presence = record { presence = true; kind = false; place = false; weight = false; name = false; class = false }
 

@@ -80,12 +80,14 @@ pub fn notes_with_lost(
 }
 
 /// Returns the notes of a run that ended because of refused calls. The result begins with `notes`.
+/// Created buckets and lost changes can also end a run, so the notes on them follow after `notes`:
 ///
-/// Then come the notes on created buckets and on lost changes, because they can also end a run.
-/// With `no_make`, if calls created more buckets than they have `add-bucket` commands, the result
-/// has a line with the number of these calls, and the history line of each of them. With `explain`,
-/// hints can follow after the history line of such a call. If changes are lost, the result ends
-/// with the line with the number of items that have a lost change, and the lines of these items.
+/// - With `no_make`, if calls created more buckets than they have `add-bucket` commands: a line
+///   with the number of these calls, and the history line of each of these calls. With `explain`,
+///   hints can follow after each of these history lines.
+/// - If changes are lost: a line with the number of items that have a lost change, and the lines of
+///   these items.
+///
 /// The function fails only if memory runs out.
 pub fn notes_with_made_and_lost(
     alloc: Global,

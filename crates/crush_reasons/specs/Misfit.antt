@@ -74,7 +74,7 @@ whole_of word = take (point_at word) word
 abbrev pub parts_of : List ℕ → List ℕ
 parts_of word = drop 1 (drop (point_at word) word)
 
--- whether a word consists of at most 10 digits, a comma or a point, and 1 to 18 digits. If such a word isn't a weight, it may have a comma in place of the point, or no digit before the point
+-- whether a word has three parts, one directly after the other: 0 to 10 digits, then a comma or a point, and then 1 to 18 digits. If such a word isn't a weight, it can have a comma in place of the point, or no digit before the point
 unfoldable pub is_mistyped : List ℕ → Bool
 is_mistyped word = (length (whole_of word) == 0 || are_digits 10 (whole_of word)) && are_digits 18 (parts_of word)
 

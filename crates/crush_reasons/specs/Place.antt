@@ -21,11 +21,11 @@ own_line origin line = line - origin.before
 abbrev pub last_line : List ℕ → ℕ
 last_line before = line_feeds before + 1
 
--- how many bytes come before the first line feed; the number of all bytes if there is none
+-- how many bytes come before the first line feed; the number of all bytes if there is no line feed
 abbrev pub to_feed : List ℕ → ℕ
 to_feed bytes = position_or_len (λ b. b == 10) bytes
 
--- how many bytes come after the last line feed; the number of all bytes if there is none
+-- how many bytes come after the last line feed; the number of all bytes if there is no line feed
 abbrev pub behind_feed : List ℕ → ℕ
 behind_feed bytes = to_feed (reverse bytes)
 

@@ -31,7 +31,8 @@ impl<'a> Origin<'a> {
     }
 }
 
-/// Returns how many bytes come before the first line feed. Counts all bytes if there is none.
+/// Returns how many bytes come before the first line feed. If there is no line feed, returns the
+/// number of all bytes.
 pub(crate) fn to_feed(bytes: &[u8]) -> usize
     ensures value { result ≡ to_feed bytes.now }
     ensures within { result ≤ length bytes.now }
@@ -52,7 +53,8 @@ fn further(behind: usize, byte: u8) -> usize
     if byte == b'\n' { 0 } else { behind + 1 }
 }
 
-/// Returns how many bytes come after the last line feed. Counts all bytes if there is none.
+/// Returns how many bytes come after the last line feed. If there is no line feed, returns the
+/// number of all bytes.
 pub(crate) fn behind_feed(bytes: &[u8]) -> usize
     requires { length bytes.now < 2 ^ 32 }
     ensures value { result ≡ behind_feed bytes.now }

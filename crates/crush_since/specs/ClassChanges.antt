@@ -30,7 +30,7 @@ class_change t u c x = record x { was = option_map (of_class t c) x.was; is = op
 abbrev pub is_of_class : List Row → List Row → List ℕ → ChangeData → Bool
 is_of_class t u c x = has_class t c x.was || has_class u c x.is
 
--- the list has the rows that follow a row of the depth `depth`. The rows below that row are the first rows of the list, up to the first one that isn't deeper than `depth`. This says whether `counts` is true for at least one of these rows
+-- the list has the rows that follow a row of the depth `depth`. The rows below that row are the first rows of the list, up to the first one that isn't deeper than `depth`. The definition says whether `counts` is true for at least one of these first rows
 abbrev pub counts_below : {X : Type 0} → (X → Bool) → (X → ℕ) → ℕ → List X → Bool
 counts_below counts depth_of depth [] = false
 counts_below counts depth_of depth (x ∷ rest) = nat_lt depth (depth_of x) && (counts x || counts_below counts depth_of depth rest)

@@ -7,7 +7,7 @@ use Rattle.crush_since.specs.Changes.{has_some}
 use Rattle.crush_since.specs.Settings.{setting_lines}
 use Rattle.crush_since.specs.Since.{PlainMap, id_line, item_lines}
 
--- SINCE PART TEXT: the lines about the item i, and about all items that are below it in at least one of the maps. The lines that follow the items of whole maps are left out
+-- SINCE PART TEXT: the lines about the item i, and about all items that are below it in at least one of the maps. The lines that aren't about items are left out
 unfoldable pub since_part_text : ItemId → PlainMap → PlainMap → List ℕ
 since_part_text i old new = flat_map (id_line old new) (part_ids old.table new.table i)
 

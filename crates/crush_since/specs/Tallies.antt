@@ -64,7 +64,7 @@ tally_with n before after = record {
   reclassed = n.reclassed + one_if (is_reclassed before after);
 }
 
--- each count has room for one more
+-- each count is so small that 1 can be added to it without an overflow of 64 bits
 pub record HasRoom (n : Tally) : Type 0 where
   pub made : n.made + 1 < 2 ^ 64
   pub removed : n.removed + 1 < 2 ^ 64

@@ -17,8 +17,8 @@ use crush_tree::View;
 use crush_units::ItemId;
 use std::alloc::{AllocError, Global};
 
-/// What two maps say about the item with a certain id. `before` or `after` is `None` if the old or
-/// the new map doesn't have the item.
+/// What two maps say about the item with a certain id. If the old map doesn't have the item,
+/// `before` is `None`. If the new map doesn't have the item, `after` is `None`.
 #[derive(Clone, Copy)]
 pub(crate) struct Compared<'a> {
     pub old: &'a Setting,
