@@ -9,7 +9,7 @@ use Rattle.crush_conflicts.specs.Cases.{CaseData, lost_of}
 use Rattle.crush_conflicts.specs.Conflicts.{AreConflicts, OperatorData, new_case, old_case}
 use Rattle.crush_conflicts.specs.NewItems.{each_once}
 
--- no operator has lost a change of this item
+-- no operator has lost a change of the item c
 abbrev pub NothingLost : List Row → CaseData → Type 0
 NothingLost t c = All (λ x. is_some_aspect (lost_of t c x) ≡ false) c.alone
 

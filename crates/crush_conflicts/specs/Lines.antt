@@ -47,7 +47,7 @@ joined text = drop 2 text
 unfoldable pub operator_values : SettingData → List Row → Aspects → FoundData → List ℕ
 operator_values s t told x = codes "; " ++ x.name ++ codes ": " ++ joined (values s t told x.item)
 
--- the same text, but nothing if `told` has no aspect
+-- the text of `operator_values`, or nothing if `told` has no aspect
 abbrev pub told_operator : SettingData → List Row → Aspects → FoundData → List ℕ
 told_operator s t told x = if is_some_aspect told then operator_values s t told x else []
 
@@ -59,7 +59,7 @@ operator_text s t c x = told_operator s t (told_of t c x) x
 unfoldable pub end_values : SettingData → List Row → CaseData → List ℕ
 end_values s t c = codes "; in the end: " ++ joined (values s t (told_at_end t c) c.after)
 
--- the same text, but nothing if the item after the run has one of the values that the line shows for an operator
+-- the text of `end_values`, or nothing if the item after the run has one of the values that the line shows for an operator
 abbrev pub end_text : SettingData → List Row → CaseData → List ℕ
 end_text s t c = if is_some_kept t c then [] else end_values s t c
 

@@ -141,7 +141,7 @@ abbrev pub CanBeShown : VerbMapFault → List ℕ → Type 0
 CanBeShown (verb.Text fault) bytes = length bytes ≤ LONGEST_JOB
 CanBeShown fault bytes = Unit {0}
 
--- the notes of a fault of these bytes
+-- the notes of a fault of the bytes of a verb's map, whose file is called `shown` in the notes
 abbrev pub verb_map_notes : List ℕ → List ℕ → VerbMapFault → List ℕ
 verb_map_notes shown bytes (verb.Text fault) = verb_flaw_notes shown bytes fault
 verb_map_notes shown bytes fault = verb_map_reason fault

@@ -15,11 +15,11 @@ pub record WordsData : Type 0 where
 abbrev pub words_data : Words → WordsData
 words_data w = record { explain = w.explain; under = w.under.now; down_to = w.down_to.now; class = w.class.now }
 
--- these values for a command line that has none of these options
+-- the values of `WordsData` for a command line that has none of the four options
 abbrev pub no_words : WordsData
 no_words = record { explain = false; under = []; down_to = []; class = [] }
 
--- these values for a command line with these options
+-- the values of `WordsData` for a command line with the given options
 abbrev pub words_of : Options → WordsData
 words_of options = record {
   explain = options.mode.explain;

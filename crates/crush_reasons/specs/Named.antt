@@ -25,7 +25,7 @@ said_of refusal.NotDirectory = Some (codes " is a device: only buckets can be re
 said_of refusal.AlreadyRenamed = Some (codes " exists and no item has the old name: was it renamed before?")
 said_of r = None
 
--- the same words for an edit that sets or removes a class; only the words for a bucket differ
+-- the words after the name for an edit that sets or removes a class. Only the words for a bucket differ from those of other edits
 abbrev pub said_of_class : Refusal → Option (List ℕ)
 said_of_class refusal.NotADevice = Some (codes " is a bucket: only devices have a class")
 said_of_class r = said_of r

@@ -18,7 +18,7 @@ sum_told sum = codes " was written, the sum is " ++ weight_text sum ++ codes "\n
 abbrev pub unequal_line : List ℕ → List ℕ → ℕ → List ℕ
 unequal_line name written sum = name ++ codes ": " ++ written ++ sum_told sum
 
--- this line, if the word `written` is a weight that isn't the sum; otherwise nothing
+-- the line for a bucket (`unequal_line`), if the word `written` is a weight that isn't the sum; otherwise nothing
 abbrev pub line_of_weight : List ℕ → List ℕ → ℕ → Result ℕ WeightFault → List ℕ
 line_of_weight name written sum (Err f) = []
 line_of_weight name written sum (Ok w) = if w == sum then [] else unequal_line name written sum

@@ -23,7 +23,7 @@ row_reached Before x = []
 row_reached (Within top) x = in_part top x ∷ []
 row_reached After x = []
 
--- the same for a row as the code stores it (`TreeRow`)
+-- a list that has the row as the code stores it (`TreeRow`), with its depth in the part, if the walk is within the part; otherwise the empty list
 abbrev pub rows_reached : Reached → TreeRow → List TreeRow
 rows_reached Before r = []
 rows_reached (Within top) r = row_at r.id r (r.depth - top) ∷ []

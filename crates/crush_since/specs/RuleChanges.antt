@@ -18,7 +18,7 @@ unfoldable pub lines_beside : Identity → PlainMap → PlainMap → List ℕ
 lines_beside identity old new =
     tunables_line old.setting new.setting ++ kinds_line old.setting new.setting ++ rule_change_lines (rule_changes identity old new) ++ class_lines old.table new.table new.setting
 
--- the same lines if no name is given. If a name is given, only a part of the maps is compared, and there are no lines
+-- the lines of `lines_beside` if no name is given. If a name is given, only a part of the maps is compared, and there are no lines
 abbrev pub lines_beside_part : Identity → Option (List ℕ) → PlainMap → PlainMap → List ℕ
 lines_beside_part identity None old new = lines_beside identity old new
 lines_beside_part identity (Some n) old new = []

@@ -42,7 +42,7 @@ changed_parts s p None None = []
 unfoldable pub changed_pair : SettingData → SettingData → PairData → List ℕ
 changed_pair s p pair = text_of_lines (stay_line (pair_name pair.before pair.after) (changed_parts s p pair.before pair.after))
 
--- first the lines of the new map's items in the order of the new map's tree, and then the lines of the items that only the old map has, in the order of the old map's tree
+-- the lines of the items of the part that the name `under` selects, or of all items if no name is given: first the lines of the new map's items in the order of the new map's tree, and then the lines of the items that only the old map has, in the order of the old map's tree
 unfoldable pub changed_lines : Option (List ℕ) → PlainMap → PlainMap → List ℕ
 changed_lines under old new = flat_map (changed_pair old.setting new.setting) (pairs ByName under old.table new.table)
 

@@ -102,7 +102,7 @@ abbrev pub stay_line : List ℕ → List (List ℕ) → List (List ℕ)
 stay_line name [] = []
 stay_line name (p ∷ rest) = (name ++ codes ": " ++ (p ++ behind rest)) ∷ []
 
--- the same line, given the parts as one text in which `; ` comes before each part
+-- the line of an item, given the parts as one text in which `; ` comes before each part
 abbrev pub stay_text_line : List ℕ → List ℕ → List (List ℕ)
 stay_text_line name [] = []
 stay_text_line name (b ∷ []) = []
@@ -119,7 +119,7 @@ line_texts lines = map (λ line. line.items) lines
 unfoldable pub stay_pair : SettingData → SettingData → PairData → List (List ℕ)
 stay_pair s p pair = stay_line (pair_name pair.before pair.after) (stay_parts s p pair.before pair.after)
 
--- first the lines of the wanted map's items in the order of the wanted map's tree, and then the lines of the items that only the map has, in the order of the map's tree
+-- the lines of the items of the part that the name `under` selects, or of all items if no name is given: first the lines of the wanted map's items in the order of the wanted map's tree, and then the lines of the items that only the map has, in the order of the map's tree
 unfoldable pub stay_lines : Option (List ℕ) → PlainMap → PlainMap → List (List ℕ)
 stay_lines under old new = flat_map (stay_pair old.setting new.setting) (pairs ById under old.table new.table)
 
