@@ -94,7 +94,7 @@ AreNotesOfFile explain name fault notes = notes ≡ []
 abbrev pub flaw_notes : Bool → List ℕ → List ℕ → TextFault → List ℕ
 flaw_notes explain name bytes fault = if explain then fault_text (whole_of name) bytes (job.Text fault) else []
 
--- the notes of a fault of the second map. For a flaw, they are `flaw_notes`, if the map's bytes are known. If the map is too long, there are none. If its file can't be read, they are the note about the file with `--explain`, and there are none without it
+-- the notes of a fault of the second map. For a flaw, there are no notes without `--explain`, and if the map's bytes are known, the notes are `flaw_notes`. If the map is too long, there are no notes. If its file can't be read, the notes are the note about the file with `--explain`, and there are no notes without `--explain`
 abbrev pub AreNotesOfSecondMapFault : Bool → List ℕ → Option (List ℕ) → SecondMapFault → List ℕ → Type 0
 AreNotesOfSecondMapFault explain name all (unread.Text fault) notes = (explain ≡ false → notes ≡ []) × IfSome all (λ bytes. notes ≡ flaw_notes explain name bytes fault)
 AreNotesOfSecondMapFault explain name all unread.TooLong notes = notes ≡ []
@@ -105,7 +105,7 @@ abbrev pub AreNotesOfSecondMap : Bool → List ℕ → Option (List ℕ) → Run
 AreNotesOfSecondMap explain name all (run.SecondMap which fault) notes = AreNotesOfSecondMapFault explain name all fault notes
 AreNotesOfSecondMap explain name all fault notes = notes ≡ []
 
--- NOTES OF A HISTORY: how the notes of a run depend on its end. If the run succeeds, or ends because of a failed write or of a name that the map doesn't have, the notes are `history_notes`: the notes of refused calls and of weights. If refused calls end the run, the notes of created buckets follow after `history_notes`, and then the lines of the lost changes `lost`, after a line with the number of items that have a lost change. If calls that created buckets end the run, the lines of these calls come before `history_notes`, and the lines of the lost changes follow after `history_notes` in the same way. If lost changes end the run, their lines come before `history_notes`. If differences that remain after a plan end the run, then `rest` has the lines of these differences, and these lines follow after `history_notes`. The definition says nothing about other faults.
+-- NOTES OF A HISTORY: how the notes of a run depend on its end. If the run succeeds, or ends because of a failed write or of a name that the map doesn't have, the notes are `history_notes`: the notes of refused calls and of weights. If refused calls end the run, the notes are `history_notes`, then the notes of created buckets (`created_notes`), and then the notes of the lost changes `lost` (`conflict_notes`). If calls that created buckets end the run, the notes are the lines of these calls (`created_lines`), then `history_notes`, and then the notes of the lost changes. If lost changes end the run, the notes are the lines of the items with a lost change, and then `history_notes`. If differences that remain after a plan end the run, the notes are `history_notes`, and then `rest`, which has the lines of these differences. The definition says nothing about other faults.
 abbrev pub AreNotesOfHistory : {X : Type 0} → Mode → TextData → SettingData → List Row → List (List ℕ) → List EntryData → List ℕ → LostData → Result X RunFault → List ℕ → Type 0
 AreNotesOfHistory mode text s t names h rest lost (Ok x) notes = notes ≡ history_notes mode text s t names h
 AreNotesOfHistory mode text s t names h rest lost (Err run.Write) notes = notes ≡ history_notes mode text s t names h
@@ -118,7 +118,7 @@ AreNotesOfHistory mode text s t names h rest lost (Err run.NoType) notes = notes
 AreNotesOfHistory mode text s t names h rest lost (Err run.NoClass) notes = notes ≡ history_notes mode text s t names h
 AreNotesOfHistory mode text s t names h rest lost (Err fault) notes = Unit {0}
 
--- NOTES WITHOUT A HISTORY: what is true of the notes of a fault, whatever the history is. For a fault of the job's bytes, there are none without `--explain`. If the bytes are known, the notes are `place_notes`. For a failed write, or for a name that the map doesn't have, there are none without `--explain`. The definition says nothing about the notes of refused calls, of created buckets, of lost changes and of remaining differences. For any other fault there are none.
+-- NOTES WITHOUT A HISTORY: what is true of the notes of a fault, whatever the history is. For a fault of the job's bytes, there are no notes without `--explain`. Also, if the bytes are known, the notes are `place_notes`. For a failed write, or for a name that the map doesn't have, there are no notes without `--explain`. The definition says nothing about the notes if refused calls, created buckets, lost changes or remaining differences end the run. For any other fault there are no notes.
 abbrev pub AreNotesOfFault : Bool → (ℕ → OriginData) → Option (List ℕ) → RunFault → List ℕ → Type 0
 AreNotesOfFault explain origin all (run.Job fault) notes = (explain ≡ false → notes ≡ []) × IfSome all (λ bytes. notes ≡ place_notes explain origin bytes fault)
 AreNotesOfFault explain origin all run.Write notes = explain ≡ false → notes ≡ []
@@ -131,7 +131,7 @@ AreNotesOfFault explain origin all run.NoType notes = explain ≡ false → note
 AreNotesOfFault explain origin all run.NoClass notes = explain ≡ false → notes ≡ []
 AreNotesOfFault explain origin all fault notes = notes ≡ []
 
--- what is true of the notes of a run's result: if the run failed, they are the notes of its fault (`AreNotesOfFault`). A run that succeeded has no notes without `--explain`
+-- what is true of the notes of a run with a given result, whatever the history is. If the run failed, the notes are those of its fault (`AreNotesOfFault`). A run that succeeded has no notes without `--explain`
 abbrev pub AreNotesOfResult : {X : Type 0} → Bool → (ℕ → OriginData) → Option (List ℕ) → Result X RunFault → List ℕ → Type 0
 AreNotesOfResult explain origin all (Ok x) notes = explain ≡ false → notes ≡ []
 AreNotesOfResult explain origin all (Err fault) notes = AreNotesOfFault explain origin all fault notes

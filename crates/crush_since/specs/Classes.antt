@@ -1,4 +1,4 @@
--- The classes that have changed: the total weight of their devices differs between the two maps, or they are new and no rule takes them.
+-- The classes that have changed: the total weight of their devices differs between the two maps, or they are new and no rule takes them. Devices that no bucket holds count, too.
 use Rattle.std.specs.Prelude.{ℕ, ◌==◌, Bool, not, ◌&&◌, ◌||◌, List, [], ◌∷◌, ◌++◌, Option, None, Some, if◌then◌else◌, flat_map, codes}
 use Rattle.crush_units.specs.Weight.{weight_text}
 use Rattle.crush_model.specs.Table.{Row, item_weight}

@@ -37,9 +37,9 @@ pub struct ClassChange<'a> {
 }
 
 /// Returns the classes that have changed, by name in ascending order. A class has changed if the
-/// total weight of its devices differs between the two maps. It has also changed if a device of the
-/// new map has it, no device of the old map has it, and no rule of the new map takes it. The call
-/// fails only if memory runs out.
+/// total weight of its devices differs between the two maps. A class has also changed if a device
+/// of the new map has it, no device of the old map has it, and no rule of the new map takes it.
+/// Devices that no bucket holds count, too. The call fails only if memory runs out.
 pub fn class_changes<'a, A: Allocator, B: Allocator>(
     alloc: Global,
     old: &'a CrushMap<A>,
