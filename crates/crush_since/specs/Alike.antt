@@ -37,7 +37,7 @@ HaveAlike old new None None = Unit {0}
 HaveAlike old new (Some x) (Some y) = AreAlike old new x y
 HaveAlike old new x y = ⊥
 
--- SETTINGS THAT AGREE: the tunables are equal, each type number has the same name in both settings, and the rules are the same. The buckets that rules take are compared by their names
+-- SETTINGS THAT AGREE: both settings have the same tunables in the same order, each type number has the same name in both settings, and both settings have the same rules in the same order. The buckets that rules take are compared by their names
 pub record SettingsAgree (old new : PlainMap) : Type 0 where
   pub tunables : old.setting.tunables ≡ new.setting.tunables
   pub kinds : (n : ℕ) → kind_name old.setting n ≡ kind_name new.setting n

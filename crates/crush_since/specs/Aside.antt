@@ -13,7 +13,7 @@ use Rattle.crush_compare.specs.declared.identity.Devices.TheVariants.{ById}
 use Rattle.crush_compare.specs.Named.{counterpart}
 use Rattle.crush_compare.specs.NamedPairs.{PairData, is_of_part, step_item}
 
--- TESTS: the first argument is the map's counterpart of a wanted item, if there is one. The tests say whether the counterpart's id differs from the wanted item's id, and whether its class ids differ
+-- TESTS: the last argument of each test is a wanted item, and the argument before it is the map's counterpart of this item, if there is one. The tests say whether the counterpart's id differs from the wanted item's id, and whether its class ids differ
 abbrev pub has_other_id : Option ItemData → ItemData → Bool
 has_other_id None y = false
 has_other_id (Some x) y = not (same_id x.view.id y.view.id)

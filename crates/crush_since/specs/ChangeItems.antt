@@ -31,7 +31,7 @@ stands_of old new depth (bucket h w m k rest) =
     (stands_of old new (depth + 1) k ++ left_from old.table new.table (depth + 1) (Some h.id) (kids old.table h.id))
     ++ stands_of old new depth rest
 
--- the list has all buckets of a forest in ascending order of their ids. The function `see` shows each element as plain data
+-- the list has all buckets of a forest, sorted by the distances of their ids from 0. The function `see` shows each element as plain data
 pub record AreBuckets {X : Type 0} (see : X → BucketData) (f : ForestData) (xs : List X) : Type 0 where
   pub same : IsPermutation (buckets_among (all_items f)) (map see xs)
   pub rising : IsNonDecreasingBy (λ x. (see x).header.id) xs

@@ -5,6 +5,6 @@ use Rattle.crush_since.specs.ItemParts.{part}
 use Rattle.crush_since.specs.RulesByName.{named_rule}
 use Rattle.crush_since.specs.Since.{PlainMap}
 
--- a list that has the line which says that the rules differ; the empty list if the rules are the same
+-- a list that has the line which says that the rules differ; the empty list if both maps have the same rules in the same order
 unfoldable pub named_rules_line : PlainMap → PlainMap → List (List ℕ)
 named_rules_line old new = part (pointwise (named_rule old.table new.table) old.setting.rules new.setting.rules) (codes "rules differ")

@@ -30,7 +30,7 @@ place_word x = place_in x.view.id x.view.parent x.holder
 abbrev pub item_type : SettingData → ItemData → List ℕ
 item_type s x = type_word s x.view.id x.view.kind
 
--- whether two items have parents with the same name, or neither has a parent
+-- whether two items are in the same place: they have parents with the same name, or both are buckets without a parent, or both are devices without a parent
 unfoldable pub same_place : ItemData → ItemData → Bool
 same_place x y = bytes_eq (place_word x) (place_word y)
 

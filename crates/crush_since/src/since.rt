@@ -57,12 +57,12 @@ pub use words::{class_bytes, type_bytes};
 /// Writes what has changed from the old map to the new map. The items of the two maps are matched
 /// by their ids. The output begins with a line for each item that differs: first the buckets by id
 /// from -1 downward, and then the devices by ascending id. After these lines there may be a line
-/// that says that the tunables differ, and a line that says that the types differ. The lines about
-/// rules and the lines about classes follow. The second-to-last line has the total weight of each
-/// map, which is the sum of the weights of all devices that a bucket holds. The last line has, for
-/// each kind of difference, the number of items that have it. If a write fails, the writer has
-/// received a beginning of the text, but not the whole text. If memory runs out, nothing is
-/// written.
+/// that says that the tunables differ, and a line that says that the types differ. Tunables also
+/// differ if they are in different orders. The lines about rules and the lines about classes
+/// follow. The second-to-last line has the total weight of each map, which is the sum of the
+/// weights of all devices that a bucket holds. The last line has, for each kind of difference, the
+/// number of items that have it. If a write fails, the writer has received a beginning of the text,
+/// but not the whole text. If memory runs out, nothing is written.
 pub fn write_since<A: Allocator, B: Allocator, W: Write>(
     alloc: Global,
     old: &CrushMap<A>,

@@ -9,8 +9,9 @@ ghost use Rattle.crush_since.specs.SinceNamesLaws.{NothingByNamesSinceItself};
 /// item name of either map is also an item name of the other map. Second, any two items of the same
 /// name are both devices or both buckets, and have the same type, place, class and algorithm. Two
 /// devices of the same name also have the same id, and weights that are at most one unit (1/65536
-/// TiB) apart. Third, the settings of the maps agree: their tunables, types and rules. The buckets
-/// that rules take are compared by their names.
+/// TiB) apart. Third, the settings of the maps agree: they have the same tunables in the same
+/// order, the same types in any order, and the same rules in the same order. The buckets that rules
+/// take are compared by their names.
 pub fn nothing_stays_where_maps_are_alike()
     ensures { NothingStaysWhereAlike }
 {}

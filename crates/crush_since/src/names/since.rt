@@ -28,12 +28,12 @@ use std::io::Write;
 /// don't match. The output begins with a line for each item of the new map that differs, in the
 /// order of the new map's tree. A line for each item that only the old map has follows, in the
 /// order of the old map's tree. After these lines there may be a line that says that the tunables
-/// differ, and a line that says that the types differ. Lines about rules and lines about classes
-/// follow. The buckets that rules take are compared by their names. The second-to-last line has the
-/// total weight of each map, which is the sum of the weights of all devices that a bucket holds.
-/// The last line has, for each kind of difference, the number of items that have it. If a write
-/// fails, the writer has received a beginning of the text, but not the whole text. If memory runs
-/// out, nothing is written.
+/// differ, and a line that says that the types differ. Tunables also differ if they are in
+/// different orders. Lines about rules and lines about classes follow. The buckets that rules take
+/// are compared by their names. The second-to-last line has the total weight of each map, which is
+/// the sum of the weights of all devices that a bucket holds. The last line has, for each kind of
+/// difference, the number of items that have it. If a write fails, the writer has received a
+/// beginning of the text, but not the whole text. If memory runs out, nothing is written.
 pub fn write_since_by_name<A: Allocator, B: Allocator, W: Write>(
     alloc: Global,
     old: &CrushMap<A>,

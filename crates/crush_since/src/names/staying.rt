@@ -31,9 +31,10 @@ use std::alloc::{AllocError, Allocator, Global};
 /// in the order of the wanted map's tree. Then comes a line for each item of the map that has no
 /// match in the wanted map, in the order of the map's tree. After these lines there may be a line
 /// that says that the tunables differ, a line that says that the types differ, and a line that says
-/// that the rules differ. Some differences are not listed: two matching buckets may have different
-/// ids, class ids and weights, and the weights of two matching devices may be up to one unit
-/// (1/65536 TiB) apart. The call fails only if memory runs out.
+/// that the rules differ. Tunables and rules also differ if they are in different orders. Some
+/// differences are not listed: two matching buckets may have different ids, class ids and weights,
+/// and the weights of two matching devices may be up to one unit (1/65536 TiB) apart. The call
+/// fails only if memory runs out.
 pub fn stays<A: Allocator, B: Allocator>(
     alloc: Global,
     map: &CrushMap<A>,
