@@ -58,7 +58,7 @@ pub record IsOldOf (content : List ℕ → Option (List ℕ)) (words : Since) (o
   pub by_name : old.by_name ≡ words.by_name
   pub under : name_text old.under ≡ name_text words.under
 
--- the old map of a tree of changes is the map in the file that the command line names, if the file's bytes are known. The part is the one that the command line names
+-- the old map of a tree of changes is the map in the file that the command line names, if the file's bytes are known. The part of the tree is the one that the command line selects
 pub record IsOldTreeOf (content : List ℕ → Option (List ℕ)) (words : ChangeTree) (old : OldTree) : Type 0 where
   pub map : IfSome (content words.map.bytes.items) (IsTextOf old.map)
   pub part : IsPartOf words.part old.part

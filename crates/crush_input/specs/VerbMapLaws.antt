@@ -8,7 +8,7 @@ use Rattle.crush_input.specs.Input.{first_bytes, job_bytes}
 use Rattle.crush_input.specs.Options.{IsTextOf}
 use Rattle.crush_input.specs.VerbMaps.{IsVerbMap, MayBeVerbMap}
 
--- FIRST MAPS: take bytes that may be a verb's map, and append the scripts of the command line. If the result is a job, then the bytes are a map that the verb can use
+-- FIRST MAPS: take bytes that may be a verb's map (`MayBeVerbMap`), and append the scripts of the command line. If the result is a job, then the bytes are a map that the verb can use
 abbrev pub FirstMapsAreMaps : Type 0
 FirstMapsAreMaps = (maps : MapForm) (content : List ℕ → Option (List ℕ)) (options : Options) (input : Option (List ℕ)) (bytes all : List ℕ)
     → MayBeVerbMap maps bytes → first_bytes content options.file input ≡ Some bytes → job_bytes content options input ≡ Some all → HasJob all → IsVerbMap maps bytes

@@ -255,8 +255,8 @@ fn job_prefix(bytes: &[u8]) -> &[u8]
 }
 
 /// Returns the notes on a fault of a job. Without `explain`, returns nothing. If the job is too
-/// long, only its first 16 MiB are used: the note of this fault is a sentence that shows no part of
-/// the job.
+/// long, the function uses only the first 16 MiB of the job. This makes no difference, because the
+/// note on this fault is a sentence that shows no part of the job.
 fn place_notes(
     alloc: Global,
     explain: bool,

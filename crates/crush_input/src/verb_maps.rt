@@ -2,9 +2,11 @@
 //! `plan`. These files have no scripts, and some verbs require them to be complete: the last line
 //! that isn't blank must be `# end crush map`.
 //!
-//! A map is parsed only once, by the run of the verb. [`read_verb_map`] only tests what a run
-//! doesn't test: whether the map is complete, and whether a line of the map begins a script. If the
-//! run fails, [`check_verb_map`] says whether one of the maps is the reason.
+//! The run of the verb parses the maps. Before the run, [`read_verb_map`] only tests whether a map
+//! is too long, whether it is complete, and whether a line of it begins a script. If a map passes
+//! these tests, [`read_verb_map`] doesn't parse the map. So if the run succeeds, each map was
+//! parsed only once. If the run fails, [`check_verb_map`] parses the maps again, and says whether
+//! one of them is the reason.
 
 ghost use Rattle.std.specs.Prelude.{◌≡◌, ◌≤◌, ◌<◌, ◌^◌, ◌++◌, ℕ, List, [], Option, Some, IfErr, IfOk, IfSome, false, length, slice_index, true};
 ghost use Rattle.crush_text.specs.Flaw.{IsFlawOrOutOfMemory};

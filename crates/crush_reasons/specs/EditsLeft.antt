@@ -13,7 +13,7 @@ use Rattle.crush_reasons.specs.declared.near.TheConstants.{MOST_LOOKS}
 use Rattle.crush_reasons.specs.Place.{OriginData, command_head, origin_data}
 use Rattle.crush_reasons.specs.Replay.{edits_of}
 
--- how many edits the calls of an operator have in these entries, in total
+-- the number of edits in all those calls of the entries h that are calls of this operator
 abbrev pub edits_given : ℕ → List EntryData → ℕ
 edits_given operator h = sum_by (λ (e : EntryData). if e.operator == operator then length (edits_of e.call) else 0) h
 

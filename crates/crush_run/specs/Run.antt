@@ -35,7 +35,7 @@ pub record IsRunOf (in_turn : Bool) (job : JobData) (h : List EntryData) : Type 
   pub calls : (k : ℕ) → calls_of (of_operator k h) ≡ calls_at job.scripts k
   pub order : in_turn ≡ true → h ≡ turns job.setting job.table job.scripts
 
--- OUTPUT: the selected output of the map after the history, with the history if it is selected. Except for a plan, the output is a function of the job, its history and the options.
+-- OUTPUT: the selected output for the map after the history. If the options select the history, the output contains the history. Except for a plan, the output is a function of the job, its history and the options.
 abbrev pub output_of : Mode → Output → PlanData → JobData → List EntryData → List ℕ
 output_of mode what plan job h = written_text mode what plan job.setting job.table (table_after job.setting job.table h) (names_of job.scripts) h
 

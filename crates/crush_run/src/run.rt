@@ -210,8 +210,8 @@ where
 /// - [`RunFault::Made`]: the request has `no_make`, and a call created more buckets than it has
 ///   `add-bucket` commands.
 /// - [`RunFault::Conflicts`]: the request has `conflicts`, the job has at least two scripts, and a
-///   change is lost. A change is lost if an operator's script makes it when the script runs alone,
-///   but the map after all scripts doesn't have it.
+///   change is lost. A change is lost if an operator's script makes the change when the script runs
+///   alone, but the map after all scripts doesn't have the change.
 /// - [`RunFault::NoItem`], [`RunFault::NoType`], [`RunFault::NoClass`]: the map after the scripts
 ///   doesn't have the item, the type or the class that the request names. If the output is a tree
 ///   of what has changed, it is enough that the old map has the class.

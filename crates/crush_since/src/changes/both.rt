@@ -52,7 +52,8 @@ impl<'a, A: Allocator, B: Allocator> Both<'a, A, B> {
         })
     }
 
-    /// Returns the position of the item with this id in the list of each map's items.
+    /// Returns the position of the item with this id in the old map's list of items, and its
+    /// position in the new map's list of items.
     pub(super) fn pair_of(&self, id: &ItemId) -> Pair
         ensures { (t u : List Row) → AreTables t u self.now
             → pair_entries self.now.maps result ≡ id_entries t u id.now }

@@ -26,7 +26,8 @@ use std::alloc::{AllocError, Allocator, Global};
 #[derive(Clone, Copy, Debug)]
 pub(crate) struct TreeRow {
     pub id: ItemId,
-    /// The position of the item in the list of each map's items.
+    /// The position of the item in the old map's list of items, and its position in the new map's
+    /// list of items.
     pub pair: Pair,
     /// The number of buckets above the item.
     pub depth: u32,
