@@ -60,7 +60,7 @@ pub struct History<'a> {
 }
 
 /// Returns the notes on a run's history. The lines of the refused calls come first. Then come the
-/// notes on the map's text, which are stored in `text` ([`KeptText::weights`]). Without `explain`,
+/// notes on the map's text, which are stored in the field `weights` of `text`. Without `explain`,
 /// there are no notes on the map's text.
 ///
 /// With `explain`, reasons are given for the refused calls. Without `explain`, the notes of a
