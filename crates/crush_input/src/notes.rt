@@ -63,9 +63,9 @@ pub struct History<'a> {
 /// notes on the map's text, which are stored in the field `weights` of `text`. Without `explain`,
 /// there are no notes on the map's text.
 ///
-/// With `explain`, reasons are given for the refused calls. Without `explain`, the notes of a
-/// strict run have the lines of the refused calls without reasons, and the notes of any other run
-/// don't have these lines. The function fails only if memory runs out.
+/// With `explain`, the reason for the refusal follows after the line of each refused call. Without
+/// `explain`, the notes of a strict run have the lines of the refused calls without reasons, and
+/// the notes of any other run don't have these lines. The function fails only if memory runs out.
 pub fn history_notes(
     alloc: Global,
     mode: Mode,
