@@ -1,4 +1,4 @@
--- Which words spell lines of the grammar, which texts are documents, and which map a text is.
+-- Which words spell lines of the grammar, which texts are documents, and which map a text describes. A draft (`Draft`) is an unfinished map. `Form` defines the forms of lines, and `Flow` defines the states of the reader.
 use Rattle.std.specs.Prelude.{◌≡◌, ℕ, true, List, [], ◌∷◌, ◌++◌}
 use Rattle.crush_model.specs.Table.{Row}
 use Rattle.crush_edits.specs.Setting.{SettingData}
@@ -12,7 +12,7 @@ use Rattle.crush_text.specs.Grammar.{next}
 use Rattle.crush_text.specs.Rows.{IsRight}
 use Rattle.crush_text.specs.Flow.{State, between, amid, arrive, takes_statement}
 
--- w is right as the next word of the form, and m is the state after it. This means: w has no fault in its role. If the words `rest` follow w, then m is the state in which the form after w is required
+-- w is right as the next word of the form, and m is the state after w. This means that w has no fault in its role, and that m is the state in which the form after w is required, if the words `rest` follow w. d is the draft before the line. If a form doesn't begin with a word, no word is right, but reading never reaches such a form
 abbrev pub SpellsForm : Draft → Form → List ℕ → List Word → State → Type 0
 SpellsForm d (word r more) w rest m = IsRight d r w × (m ≡ arrive d rest (more (value d r w)))
 SpellsForm d (done p) w rest m = ⊥
@@ -29,7 +29,7 @@ abbrev pub Spell : State → List Word → List Word → State → Type 0
 Spell s [] others m = s ≡ m
 Spell s (w ∷ ws) others m = (u : State) × SpellsNext s w.text (ws ++ others) u × Spell u ws others m
 
--- the text may end in this state, and d is the draft that the lines before have built
+-- the text may end in this state, and d is the draft that the lines before the end have built
 abbrev pub IsWhole : State → Draft → Type 0
 IsWhole (between p) d = (p.draft ≡ d) × (takes_statement p.mode ≡ true)
 IsWhole (amid e f) d = ⊥

@@ -1,4 +1,4 @@
--- What a flaw of a map's text is: the first fault of the text, at its place.
+-- What a flaw of a map's text is: the first fault of the text, at its place. `Rows` defines the faults of a word, and `Flow` defines the states of the reader.
 use Rattle.std.specs.Prelude.{◌≡◌, ◌⊎◌, ℕ, Bool, false, List, [], ◌∷◌, ◌++◌}
 use Rattle.crush_builder.specs.Built.{Draft}
 use Rattle.crush_text.specs.declared.fault.TextFaultKind.{TextFaultKind}
@@ -11,7 +11,7 @@ use Rattle.crush_text.specs.Rows.{IsFault}
 use Rattle.crush_text.specs.Flow.{State, between, amid, takes_statement, expected_at}
 use Rattle.crush_text.specs.Document.{Spell, start}
 
--- f is the fault of the word w if this form is required next: w has the fault f in the role of the form's next word. If the form requires no word, the fault is `Unexpected`, but reading never reaches such a form
+-- f is the fault of the word w if this form is required next: w has the fault f in the role of the form's next word. If the form doesn't begin with a word, f is `Unexpected`, but reading never reaches such a form
 abbrev pub FaultyForm : TextFaultKind → Draft → Form → List ℕ → Type 0
 FaultyForm f d (word r more) w = IsFault f d r w
 FaultyForm f d (done p) w = f ≡ Unexpected

@@ -30,7 +30,7 @@ arrive d rest (word r more) = amid d (word r more)
 arrive d rest (optional k f g) = if begins_with_key k rest then arrive d rest f else arrive d rest g
 arrive d rest (ahead k f g) = if begins_with_key k (drop 1 rest) then arrive d rest f else arrive d rest g
 
--- the state after the word w, if this form is required and the words `rest` follow w. If w has a fault, the result is this fault. If the form requires no word, the fault is `Unexpected`, but reading never reaches such a form
+-- the state after the word w, if this form is required and the words `rest` follow w. If w has a fault, the result is this fault. If the form doesn't begin with a word, the result is the fault `Unexpected`, but reading never reaches such a form
 abbrev pub take : Draft → Form → List ℕ → List Word → Result State TextFaultKind
 take d (word r more) w rest = word_for d r w >>= λ v. Ok (arrive d rest (more v))
 take d f w rest = Err Unexpected
@@ -57,13 +57,13 @@ abbrev pub placed : {A : Type 0} → ℕ → Expected → Result A TextFaultKind
 placed place e (Ok x) = Ok x
 placed place e (Err kind) = Err (record { kind = kind; place = place; expected = e })
 
--- whether a statement may begin in this mode. In exactly these modes, the text may also end
+-- whether a statement may begin in this mode. The text may also end in such a mode, and in no other mode
 abbrev pub takes_statement : Mode → Bool
 takes_statement first = true
 takes_statement second = true
 takes_statement m = false
 
--- failing with the fault that the text ends inside a statement. `place` is the end of the text, and e is what is expected there
+-- the result if the text ends inside a statement: the fault `Ended`. `place` is the end of the text, and e is what is expected there
 abbrev pub unfinished : ℕ → Expected → Result Draft TextFault
 unfinished place e = Err (record { kind = Ended; place = place; expected = e })
 

@@ -55,7 +55,7 @@ line_at d (word r more) t = word_at d r t >>= λ x. line_at d (more x.0) x.1
 line_at d (optional k f g) t = if begins k t then line_at d f t else line_at d g t
 line_at d (ahead k f g) t = if begins k (past t) then line_at d f t else line_at d g t
 
--- the result of reading the whole text, if reading its first line had this result
+-- the result of reading a text to its end, if reading its first line had this result
 abbrev pub then_on : Result (Progress × Text) TextFault → Result Draft TextFault
 then_on r = r >>= λ x. outcome (between x.0) x.1
 

@@ -25,12 +25,12 @@ pub record IsIdle (b : BuilderData) : Type 0 where
   pub part : b.pending ≡ nothing
   pub some : (d : Draft) × IsDraft b d
 
--- the builder represents a draft, and is at the part of a bucket that the test recognizes
+-- the builder represents a draft, and the test is true of the builder's incomplete bucket. For example, `is_begun` tests whether the bucket has a type and a name, but no id yet
 pub record IsAmid (test : Pending → Bool) (b : BuilderData) : Type 0 where
   pub part : test b.pending ≡ true
   pub some : (d : Draft) × IsDraft b d
 
--- the builder is at a part of the text where lines of this mode may come
+-- the builder is ready for the lines that may come next in this mode: its incomplete bucket is at the stage that these lines require, or the builder is between two statements. While a rule is read, the builder is also between two statements, because the reader stores this rule outside of the builder
 abbrev pub TakesLinesOf : Mode → BuilderData → Type 0
 TakesLinesOf begun b = IsAmid is_begun b
 TakesLinesOf numbered b = IsAmid is_numbered b
@@ -50,7 +50,7 @@ abbrev pub LineGoes : {X : Type 0} → (X → Ending) → Result X TextFault →
 LineGoes mode (Ok x) builder rest d g t = (e : Draft) × IsDraft builder e × (line_at d g t ≡ Ok (ending (mode x) e, rest))
 LineGoes mode (Err f) builder rest d g t = FailsIn f d g t
 
--- A LINE was read. For each draft d that the builder represented before, the line has the form `form d`. After success, the builder is at a part of the text where the lines that may come next are allowed, and the text that is left has fewer words
+-- A LINE was read. For each draft d that the builder represented before, the line has the form `form d`. After success, the builder is ready for the lines that may come next (`TakesLinesOf`), and the text that is left has fewer words than before
 pub record ReadsLine {A : _} {X : Type 0} (form : Draft → Form) (mode : X → Ending) (old new : MapReader A) (x : Result X TextFault) : Type 0 where
   pub reads : (d : Draft) → IsDraft old.builder d → LineGoes mode x new.builder new.text d (form d) old.text
   pub stands : IfOk x (λ v. TakesLinesOf (mode v).0 new.builder)
@@ -61,7 +61,7 @@ abbrev pub Goes : {X : Type 0} → (X → Ending) → Result X TextFault → Bui
 Goes mode (Ok x) builder rest s t = (e : Draft) × IsDraft builder e × LeadsOn s t (between (ending (mode x) e)) rest
 Goes mode (Err f) builder rest s t = Fails f s t
 
--- LINES were read. For each draft d that the builder represented before, they were read from the state `from d`. After success, the builder is at a part of the text where the lines that may come next are allowed, and the text that is left has no more words than before
+-- LINES were read. For each draft d that the builder represented before, reading began in the state `from d`. After success, the builder is ready for the lines that may come next (`TakesLinesOf`), and the text that is left has no more words than before
 pub record ReadsOn {A : _} {X : Type 0} (from : Draft → State) (mode : X → Ending) (old new : MapReader A) (x : Result X TextFault) : Type 0 where
   pub reads : (d : Draft) → IsDraft old.builder d → Goes mode x new.builder new.text (from d) old.text
   pub stands : IfOk x (λ v. TakesLinesOf (mode v).0 new.builder)

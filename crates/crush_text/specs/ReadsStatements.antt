@@ -36,7 +36,7 @@ NextGoes (Ok None) builder rest s t = (e : Draft) × IsDraft builder e × (outco
 NextGoes (Ok (Some b)) builder rest s t = (e : Draft) × IsDraft builder e × LeadsOn s t (between (ending (behind b) e)) rest
 NextGoes (Err f) builder rest s t = Fails f s t
 
--- A STATEMENT was read, or the end of the text. After success, the builder is between two statements. After a statement, the text that is left has fewer words
+-- A STATEMENT was read, or the end of the text was reached. After success, the builder is between two statements. If a statement was read, the text that is left has fewer words than before
 pub record ReadsNext {A : _} (before : Before) (old new : MapReader A) (x : Result (Option Before) TextFault) : Type 0 where
   pub idle : OnOk x (IsIdle new.builder)
   pub reads : (d : Draft) → IsDraft old.builder d → NextGoes x new.builder new.text (between (ending (behind before) d)) old.text

@@ -47,7 +47,7 @@ pub data Role : Type 0 where
   step_count : Role
   step_type : Role
 
--- what the first word of a step says. `takes` is the word `take`. `chooses` is `choose`, or `chooseleaf` if the Bool is true. `sets` is a word that begins with `set_`. `emits` is the word `emit`
+-- what the first word of a step means. `takes` is for the word `take`. `chooses` is for `choose`, or for `chooseleaf` if the Bool is true. `sets` is for a word that begins with `set_`. `emits` is for the word `emit`
 pub data StepWord : Type 0 where
   takes : StepWord
   chooses : Bool → StepWord

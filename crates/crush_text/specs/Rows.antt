@@ -1,4 +1,4 @@
--- THE TABLE OF FAULTS. It has a row for each fault, which says in which cases a word of a role has this fault. d is the draft before the word's line, r is the word's role, and w is the word.
+-- THE TABLE OF FAULTS. It has a row for each fault, which says in which cases a word of a role has this fault. r is the word's role, w is the word, and d is the draft before the word's line. (A draft is an unfinished map.)
 use Rattle.std.specs.Prelude.{◌≡◌, ◌≢◌, ◌<◌, ◌≤◌, ◌⊎◌, ℕ, true, false, nat_eq, List, Result, Ok, Err, None, codes, drop, Some}
 use Rattle.std.specs.List.{starts_with}
 use Rattle.std.specs.Str.Parse.{digits_value}
@@ -95,7 +95,7 @@ IsUnknownType d (opening late or) w = (is_reserved w ≡ false) × (is_bucket_ki
 IsUnknownType d step_type w = kind_number d.setting w ≡ None
 IsUnknownType d r w = ⊥
 
--- UNKNOWN ITEM: the word is neither the name of a declared device nor that of a complete bucket
+-- UNKNOWN ITEM: the word is neither the name of a declared device nor the name of a complete bucket. (A bucket is complete if its closing brace was read before)
 abbrev pub IsUnknownItem : Draft → Role → List ℕ → Type 0
 IsUnknownItem d item w = item_named d w ≡ None
 IsUnknownItem d lone_item w = item_named d w ≡ None
@@ -116,7 +116,7 @@ abbrev pub IsOtherAlgorithm : Role → List ℕ → Type 0
 IsOtherAlgorithm algorithm w = alg_of_text w ≡ None
 IsOtherAlgorithm r w = ⊥
 
--- LEFT OUT: the word begins something that isn't supported. It is `choose_args` as the first word of a statement, `pos` after an item, or `choosemsr` as the first word of a step
+-- LEFT OUT: the word begins a part of Ceph's grammar that isn't supported. This is `choose_args` as the first word of a statement, `pos` after an item, or `choosemsr` as the first word of a step
 abbrev pub IsLeftOut : Role → List ℕ → Type 0
 IsLeftOut (opening late or) w = w ≡ codes "choose_args"
 IsLeftOut (item_or_end any or) w = (any ≡ true) × (w ≡ codes "pos")
@@ -141,7 +141,7 @@ IsOneTooMany d w =
     ⊎ (((w ≡ codes "rule") × (is_full_of_rules d ≡ true))
     ⊎ (BeginsBucket d w × (is_full_of_buckets d ≡ true)))))
 
--- TOO MANY: the text has one more tunable, type, device, bucket, class id, rule or step than a map may have
+-- TOO MANY: the text has one more tunable, type, device, bucket or rule than a map may have, or one more class id than a bucket may have, or one more step than a rule may have
 abbrev pub IsTooMany : Draft → Role → List ℕ → Type 0
 IsTooMany d (opening late or) w = IsOneTooMany d w
 IsTooMany d id_or_alg w = (w ≡ codes "id") × (is_full_of_class_ids d ≡ true)

@@ -61,9 +61,9 @@ pub enum Optional {
     Sizes,
 }
 
-/// What the grammar expects at the place of a fault. Some variants have a field `or`. The optional
-/// part in this field could begin at the same place, so the first word of this part is also
-/// allowed.
+/// What the grammar expects at the place of a fault. Some variants have a field `or`, which says
+/// whether an optional part of the text could begin at the same place. If so, each word with which
+/// this part can begin is also allowed.
 #[derive(Clone, Copy, Debug, PartialEq, Eq)]
 pub enum Expected {
     /// The first word of a statement.
@@ -74,7 +74,7 @@ pub enum Expected {
         /// The optional part that could still follow.
         or: Optional,
     },
-    /// This keyword.
+    /// The keyword in this field, and no other word.
     Keyword(Keyword),
     /// A number from 0 to `most`.
     Number {
@@ -129,14 +129,15 @@ pub enum Expected {
     },
     /// The first word of a step, after `step`.
     StepWord,
-    /// The name of a bucket that a step takes.
+    /// The name of the bucket that a `take` step takes. The closing brace of this bucket must come
+    /// before the step.
     TakenBucket,
     /// `firstn` or `indep`.
     FirstnOrIndep,
     /// The number of items that a step chooses, from -2147483648 to 2147483647. If the number is 0
     /// or below, the size of the pool is added to it.
     Count,
-    /// The name of the type of the items that a step chooses.
+    /// The name of the type of the items that a step chooses. This type must be declared.
     StepType,
     /// Nothing is expected: memory ran out at this place.
     Memory,

@@ -26,9 +26,10 @@ pub enum TextFaultKind {
     /// An earlier line gives the same number to a type, or the same id to a device or a rule. Or an
     /// earlier line gives the same id to a bucket, for the bucket itself or for a class.
     DuplicateId,
-    /// An earlier line gives the same name to a thing of the same sort: to a tunable, to a type, to
-    /// a rule, or to an item, which is a device or a bucket. Or the line is like `id -2 class hdd`,
-    /// and an earlier line of the same bucket gives an id for the same class.
+    /// An earlier line gives the same name to a thing of the same sort. The sorts are tunables,
+    /// types, rules and items, and an item is a device or a bucket. Or the word is the class in a
+    /// line such as `id -2 class hdd`, and an earlier line of the same bucket gives an id for the
+    /// same class.
     DuplicateName,
     /// The word isn't the name of a declared type. Or the word is the first word of a statement,
     /// and is the name of type 0, which is the type of devices. No bucket can have this type.
@@ -45,13 +46,14 @@ pub enum TextFaultKind {
     LeftOut,
     /// The word after `take` isn't the name of a bucket whose closing brace was read before.
     UnknownBucketInRule,
-    /// The text has more tunables, types, devices, buckets, class ids, rules or steps than a map
-    /// may have.
+    /// The text has more tunables, types, devices, buckets or rules than a map may have. Or a
+    /// bucket has more class ids than a bucket may have, or a rule has more steps than a rule may
+    /// have. docs/user/RULES.md lists the limits.
     TooMany,
     /// With this item, the weight of a bucket would be above 4294967295 units, or the total weight
     /// of the map would be above 8796093022207 units.
     SumTooLarge,
-    /// Memory couldn't be allocated. The text has no fault up to this place.
+    /// Memory couldn't be allocated. The text has no fault up to the place that is reported.
     OutOfMemory,
 }
 
@@ -61,12 +63,13 @@ pub enum TextFaultKind {
 pub struct TextFault {
     /// What is wrong.
     pub kind: TextFaultKind,
-    /// The index, from 0, of the first byte of the word at fault, or of the byte that isn't
-    /// allowed. If the text ends inside a statement, this is the length of the text. If memory ran
-    /// out, this is the index of a word. Neither this word nor a word before it then has a fault.
-    /// If memory ran out and the text has no words, this is the length of the text.
+    /// The index of a byte of the text, from 0. This is the first byte of the word at fault, or the
+    /// byte that isn't allowed. If the text ends inside a statement, this is the length of the
+    /// text. If memory ran out, this is the index of the first byte of a word, and neither this
+    /// word nor a word before it has a fault. If memory ran out and the text has no words, this is
+    /// the length of the text.
     pub place: usize,
-    /// What the grammar expects at this place. Which words these are depends on the words before.
+    /// What the grammar expects at this place, after the words that come before it.
     pub expected: Expected,
 }
 

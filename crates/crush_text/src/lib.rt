@@ -1,9 +1,9 @@
 //! Reads the text of a CRUSH map.
 //!
-//! [`read_map`] parses the text, and builds the map with a builder of `crush_builder`.
-//! `specs/Grammar.antt` defines the grammar of the text, and `specs/Rows.antt` defines which faults
-//! a word can have. `specs/Flaw.antt` defines the first fault of a text, which is the fault that
-//! [`read_map`] reports.
+//! [`read_map`] parses the text, and builds the map with a `MapBuilder` of the crate
+//! `crush_builder`. The file `specs/Grammar.antt` defines the grammar of the text, and
+//! `specs/Rows.antt` defines which faults a word can have. `specs/Flaw.antt` defines the first
+//! fault of a text. If memory suffices, [`read_map`] reports this fault.
 #![tactic(auto)]
 
 mod adjusted;

@@ -23,8 +23,8 @@ use crush_units::{Alg, BucketId, Reader};
 use std::alloc::Allocator;
 
 impl<'a, A: Allocator + Clone> MapReader<'a, A> {
-    /// Reads a bucket to its closing brace. The first word of the bucket was read before. This word
-    /// is `kind`, the name of the bucket's type.
+    /// Reads a bucket from its second word, which is its name, to its closing brace. The bucket's
+    /// first word was read before. This word is `kind`, the name of the bucket's type.
     pub(crate) fn bucket(&mut self, kind: &[u8]) -> Result<(), TextFault>
         requires { HasRoomForBucket kind.now self.old.builder }
         ensures { ReadsOn (λ d. arrive d self.old.text.words (bucket_line d (kind_of_word d kind.now)))
@@ -108,9 +108,9 @@ impl<'a, A: Allocator + Clone> MapReader<'a, A> {
             .map_err(|fault| out_of_memory_at(class.place, fault))
     }
 
-    /// Reads an algorithm, and its hash if there is one. The word `alg` was read before. The only
-    /// supported hash is 0. Returns the optional part that could still follow: `Optional::Hash` if
-    /// there is no hash, and otherwise `Optional::Nothing`.
+    /// Reads an algorithm, and the hash after it if there is one. The word `alg` was read before.
+    /// The only hash that is supported has the number 0. Returns the optional part that could still
+    /// follow: `Optional::Hash` if there is no hash, and otherwise `Optional::Nothing`.
     #[tactic(auto, unfolding(crate::specs::Reads::line_at))]
     fn alg(&mut self) -> Result<Optional, TextFault>
         requires { IsAmid is_numbered self.old.builder }

@@ -1,4 +1,4 @@
-//! Finds the fault of a text if memory doesn't even suffice for an empty map.
+//! Finds the fault to report if there isn't even enough memory for an empty map.
 
 ghost use Rattle.std.specs.Prelude.{◌≡◌};
 ghost use Rattle.crush_text.specs.ReadsStatements.{FailsText, FailsFirst, opens_alone};
@@ -10,8 +10,9 @@ use crate::reader::word::{PlacedWord, memory_at};
 use crush_units::{Reader, Token};
 
 /// Returns the fault of the text's first word. If this word has no fault, returns `OutOfMemory` at
-/// the place of the word. If the text has no words, returns `OutOfMemory` at the end of the text.
-/// If no word can be read at the beginning of the text, returns `BadWord`.
+/// the place of the word. If the text ends before a first word, returns `OutOfMemory` at the end of
+/// the text. If the first word is too long, or if a byte that isn't allowed comes before any word,
+/// returns `BadWord`.
 pub(crate) fn fault_without_memory(reader: &mut Reader<'_>) -> TextFault
     ensures { FailsText result reader.old }
 {

@@ -26,8 +26,8 @@ use crush_units::{ItemId, Reader, Weight};
 use std::alloc::Allocator;
 
 impl<'a, A: Allocator + Clone> MapReader<'a, A> {
-    /// Reads the items of a bucket and its closing brace. `or` is the optional part that could
-    /// still follow before the first item.
+    /// Reads the items of a bucket, and then the bucket's closing brace. `or` is the optional part
+    /// that could still follow before the first item.
     pub(crate) fn items(&mut self, or: Optional) -> Result<(), TextFault>
         requires { IsAmid is_filling self.old.builder }
         ensures { ReadsOn (λ d. between (passing or (at (filling false) d))) (λ _. (second, Nothing))

@@ -152,8 +152,8 @@ fn rule_head_values(
     })
 }
 
-/// Reads the word `size`, which is `min_size` or `max_size`, and the number after it. If the next
-/// word isn't `size`, reads nothing and returns `None`.
+/// Reads the word `size` and the number after it, and returns this number. `size` is `min_size` or
+/// `max_size`. If the next word isn't `size`, reads nothing and returns `None`.
 #[tactic(auto, unfolding(crate::specs::Reads::line_at))]
 fn read_size(reader: &mut Reader<'_>, size: &[u8]) -> Result<Option<u32>, TextFault>
     ensures { ReadsSize size.now reader.old reader.new result }
@@ -165,10 +165,10 @@ fn read_size(reader: &mut Reader<'_>, size: &[u8]) -> Result<Option<u32>, TextFa
     Ok(Some(number))
 }
 
-/// Returns the optional part of the text that could still follow after what was read of the rule.
-/// If the rule has no steps yet, this is a part with sizes, as [`left_sizes`] says. If the rule has
-/// steps, and the last step takes a bucket without a class, this is the class. Otherwise no part
-/// could follow. Messages name this part beside `step` and `}`.
+/// Returns the optional part that could still follow after the part of the rule that was read. If
+/// the rule has no steps yet, this is the part that [`left_sizes`] returns. If the last step of the
+/// rule takes a bucket without a class, this is `class` with a name. Otherwise no optional part
+/// could follow. The message for a fault names this part, in addition to `step` and `}`.
 fn left_by(rule: &Rule) -> Optional
     ensures { result ≡ left_by rule.now }
 {
@@ -178,8 +178,9 @@ fn left_by(rule: &Rule) -> Optional
     }
 }
 
-/// Returns the optional part that could still follow after the step. This is the class if the step
-/// takes a bucket without a class.
+/// Returns the optional part that could still follow after the step. If the step takes a bucket
+/// without a class, this part is `class` with a name. After any other step, no optional part could
+/// follow.
 fn left_by_step(step: &Step) -> Optional
     ensures { result ≡ left_by_step step.now }
 {

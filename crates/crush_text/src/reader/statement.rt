@@ -18,7 +18,7 @@ use crate::statement_kind::StatementKind;
 use crush_units::Token;
 use std::alloc::Allocator;
 
-/// What a method needs to know about the text before a statement.
+/// What the reader needs to know about the text before a statement, to read this statement.
 #[derive(Clone, Copy)]
 pub(crate) struct Before {
     /// Whether a bucket or a rule was read before the statement. If so, only buckets and rules may
@@ -57,8 +57,8 @@ impl<'a, A: Allocator + Clone> MapReader<'a, A> {
         Ok(())
     }
 
-    /// Reads the next statement. Returns a [`Before`], which says what the next call needs to know
-    /// about the text that was read. At the end of the text, returns `None`.
+    /// Reads the next statement. `before` describes the text before this statement. Returns a
+    /// [`Before`] for the statement that follows. At the end of the text, returns `None`.
     fn next_statement(&mut self, before: Before) -> Result<Option<Before>, TextFault>
         requires { IsIdle self.old.builder }
         ensures { ReadsNext before self.old self.new result }

@@ -113,8 +113,8 @@ impl<'a, A: Allocator> MapReader<'a, A> {
     }
 }
 
-/// Reads the number of a step whose first word begins with `set_`. This word was read before, and
-/// `name` is a copy of it.
+/// Reads the number of a step whose first word begins with `set_`, and returns the step. The first
+/// word was read before, and `name` is a copy of it.
 #[tactic(auto, unfolding(crate::specs::Reads::line_at))]
 fn read_set(reader: &mut Reader<'_>, name: Name<Global>) -> Result<Step, TextFault>
     requires sets { starts_with nat_eq name (codes "set_") ≡ true }
@@ -161,8 +161,8 @@ fn sets(text: &[u8]) -> bool
 }
 
 /// Reads `firstn` or `indep`, and returns true for `firstn`. These words say what happens to the
-/// list of chosen items if an item is lost. With `firstn`, the items after the lost item move up by
-/// one position. With `indep`, they keep their positions.
+/// list of chosen items if one of these items is lost. With `firstn`, the items after the lost item
+/// move up by one position. With `indep`, the items after the lost item keep their positions.
 #[tactic(auto, unfolding(crate::specs::Reads::word_at))]
 fn read_order(reader: &mut Reader<'_>) -> Result<bool, TextFault>
     ensures { ReadsValue step_order (λ b. b) AnyDraft reader.old reader.new result }
