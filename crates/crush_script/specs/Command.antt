@@ -1,4 +1,4 @@
--- How the words of a line of a section are parsed. Each definition gives a value, or the reason why the line can't be parsed.
+-- How the words of a line of a section are parsed. Each definition gives a value, or the fault that says why the line can't be parsed.
 use Rattle.std.specs.Prelude.{ℕ, ◌+◌, List, [], ◌∷◌, ◌++◌, length, nat_lt, Option, Some, None, codes, bytes_eq, Result, Ok, Err, if◌then◌else◌}
 use Rattle.crush_units.specs.Name.{is_name}
 use Rattle.crush_units.specs.Weight.{weight_of_text}
@@ -30,12 +30,12 @@ pub record Read (X : Type 0) : Type 0 where
 abbrev pub misfit : ℕ → Due → LineFault
 misfit index d = Word (record { word = index; due = d })
 
--- the next word, which has this index, as a name. If there is no next word, or if it isn't a name, the result is a misfit. The argument d is what the misfit reports as required, for example the name of a device.
+-- the next word, which has this index in the line, as a name. If there is no next word, or if it isn't a name, the result is a misfit. The argument d is what the misfit reports as required, for example the name of a device.
 unfoldable pub name_at : ℕ → Due → List (List ℕ) → Result (Read (List ℕ)) LineFault
 name_at index d [] = Err (misfit index d)
 name_at index d (word ∷ rest) = if is_name word then Ok (record { value = word; rest = rest }) else Err (misfit index d)
 
--- the result of parsing a weight, and the words after it. If parsing has failed, the result is a misfit. A weight is at most HEAVIEST_BUCKET units
+-- the weight that parsing the word at this index has given, and the words after it. If parsing has failed, the result is a misfit. A weight is at most HEAVIEST_BUCKET units
 abbrev pub read_weight : ℕ → Result ℕ WeightFault → List (List ℕ) → Result (Read ℕ) LineFault
 read_weight index (Ok units) rest = Ok (record { value = units; rest = rest })
 read_weight index (Err fault) rest = Err (misfit index due.Weight)
@@ -65,7 +65,7 @@ with_pairs first l (word ∷ rest) = with_pair first l word >>= λ more. with_pa
 unfoldable pub location_at : ℕ → List (List ℕ) → Result (List Pair) LineFault
 location_at first words = with_pairs first [] words
 
--- the id of a device. If there is no id, the result is a misfit at the word after the command
+-- the id of the device that the first word after the command names. If the word isn't the name of a device, there is no id, and the result is a misfit at this word
 abbrev pub the_device : Option ℕ → Result ℕ LineFault
 the_device None = Err (misfit 1 due.Device)
 the_device (Some id) = Ok id
@@ -128,7 +128,7 @@ edit_by (Some keyword) rest = edit_of keyword rest
 unfoldable pub edit_at : List ℕ → List (List ℕ) → Result Edit LineFault
 edit_at first rest = edit_by (keyword_of first) rest
 
--- a number of changes that was read, and the words after it. If the word isn't a number of changes, the result is a misfit
+-- the number of changes that the word at this index spells, and the words after it. If the word doesn't spell a number of changes, the result is a misfit
 abbrev pub read_count : ℕ → Option ℕ → List (List ℕ) → Result (Read ℕ) LineFault
 read_count index (Some n) rest = Ok (record { value = n; rest = rest })
 read_count index None rest = Err (misfit index due.Changes)

@@ -18,7 +18,7 @@ lacks_memory OutOfMemory = true
 lacks_memory (Text fault) = is_out_of_memory fault.kind
 lacks_memory fault = false
 
--- how a message names what a line requires at a word
+-- how a message names what the form of a line requires at a word
 abbrev pub due_text : Due → List ℕ
 due_text Device = codes "the name of a device, osd.N"
 due_text Weight = codes "a weight"

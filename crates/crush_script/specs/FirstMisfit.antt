@@ -11,7 +11,7 @@ use Rattle.crush_script.specs.declared.fault.Misfit.{Misfit}
 use Rattle.crush_script.specs.Words.{is_pair, is_count}
 use Rattle.crush_script.specs.Command.{command, operator}
 
--- the word is one that the form of a line requires, if the misfit reports this `Due`
+-- the word fits at a place for which a misfit reports this `Due` as required. `NoMorePairs` and `End` report that the line must end, so no word fits there
 abbrev pub IsDue : Due → List ℕ → Type 0
 IsDue due.Device word = (is_name word ≡ true) × IsSome (device_named word)
 IsDue due.Weight word = IsOk (weight_of_text word)
@@ -22,7 +22,7 @@ IsDue due.At word = word ≡ codes "at"
 IsDue due.Changes word = is_count word ≡ true
 IsDue due.End word = ⊥
 
--- whether the line may also end before the word at which the misfit is
+-- whether the line may end at a place for which a misfit reports this `Due`
 abbrev pub may_end : Due → Bool
 may_end due.Device = false
 may_end due.Weight = false
@@ -33,7 +33,7 @@ may_end due.At = true
 may_end due.Changes = false
 may_end due.End = true
 
--- FIRST MISFIT: of the words of a line that `parse` reads, the word with this index is the first one that doesn't fit. `fits`: the words before it, followed by any word that fits, are the beginning of a line that can be read. `only`: followed by any other word, they aren't the beginning of such a line. `ends`: if the line may end there, the words before it are themselves a line that can be read. `wrong`: no line that can be read begins with the words up to and including the misfit.
+-- FIRST MISFIT: of the words of a line that `parse` reads, the word with this index is the first one that doesn't fit, and d says which words would fit. `fits`: the words before it, followed by any word that fits, are the beginning of a line that can be read. `only`: followed by any other word, they aren't the beginning of such a line. `ends`: if the line may end before this index, the words before it are by themselves a line that can be read. `wrong`: no line that can be read begins with the words up to and including the misfit.
 pub record FirstMisfit {X : Type 0} (parse : List (List ℕ) → Result X LineFault) (words : List (List ℕ)) (index : ℕ) (d : Due) : Type 0 where
   pub within : index ≤ length words
   pub fits : (word : List ℕ) → IsDue d word → (more : List (List ℕ)) × IsOk (parse (take index words ++ word ∷ more))

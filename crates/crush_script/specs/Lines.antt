@@ -28,7 +28,7 @@ line_feeds bytes = count_by (λ b. b == 10) bytes
 abbrev pub section_line : List ℕ → ℕ
 section_line job = line_feeds (map_part job) + 1
 
--- a line without the carriage return at its end, if it has one
+-- the line without the carriage return at its end. A line without a carriage return at its end stays the same
 abbrev pub without_return : List ℕ → List ℕ
 without_return line = if slice_index line (length line - 1) == 13 then take (length line - 1) line else line
 
@@ -40,7 +40,7 @@ without_comment line = take_while (λ b. not (b == 35)) line
 abbrev pub is_space_or_tab : ℕ → Bool
 is_space_or_tab b = b == 32 || b == 9
 
--- the words of a text. A word is a run of bytes that are neither spaces nor tabs, and is as long as possible
+-- the words of a text. A word is a run of bytes that are neither spaces nor tabs. The bytes before and after this run, if there are any, are spaces or tabs
 unfoldable pub words_between_blanks : List ℕ → List (List ℕ)
 words_between_blanks text = filter (λ (word : List ℕ). nat_lt 0 (length word)) (slice_split is_space_or_tab text)
 
@@ -48,7 +48,7 @@ words_between_blanks text = filter (λ (word : List ℕ). nat_lt 0 (length word)
 abbrev pub line_words : List ℕ → List (List ℕ)
 line_words line = words_between_blanks (without_comment (without_return line))
 
--- the rest of a text, beginning with its first word; no bytes if the text has no word
+-- the rest of a text, beginning with its first word. If the text has no word, this is no bytes
 abbrev pub from_blanks : List ℕ → List ℕ
 from_blanks text = drop (position_or_len (λ b. not (is_space_or_tab b)) text) text
 
@@ -56,12 +56,12 @@ from_blanks text = drop (position_or_len (λ b. not (is_space_or_tab b)) text) t
 abbrev pub behind_word : List ℕ → List ℕ
 behind_word text = drop (position_or_len is_space_or_tab (from_blanks text)) (from_blanks text)
 
--- the rest of a text after its first words, as many as the number says
+-- the rest of a text after its first n words, where n is the first argument
 unfoldable pub behind_words : ℕ → List ℕ → List ℕ
 behind_words zero text = text
 behind_words (suc n) text = behind_word (behind_words n text)
 
--- the rest of a text, beginning with the word at this index, which counts from 0; no bytes if the text has no such word
+-- the rest of a text, beginning with the word at this index. The index counts from 0. If the text has no such word, this is no bytes
 abbrev pub from_word : ℕ → List ℕ → List ℕ
 from_word index text = from_blanks (behind_words index text)
 
@@ -69,7 +69,7 @@ from_word index text = from_blanks (behind_words index text)
 abbrev pub first_word : List ℕ → List ℕ
 first_word text = take (position_or_len is_space_or_tab text) text
 
--- PLACED WORD. `word_in_line` is the word at this index of a line, which counts from 0. If the line has no such word, it has no bytes. `place_in_line` is the number of bytes of the line before this word
+-- PLACED WORD. The argument `index` counts the words of a line from 0. `word_in_line` is the word of the line at this index, or no bytes if the line has no such word. `place_in_line` is the number of bytes of the line before this word. If the line has no such word, it is the number of bytes before the comment or, without a comment, before the end of the line. A carriage return at the end of the line isn't counted
 abbrev pub word_in_line : ℕ → List ℕ → List ℕ
 word_in_line index line = first_word (from_word index (without_comment (without_return line)))
 

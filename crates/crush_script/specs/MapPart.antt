@@ -12,7 +12,7 @@ pub record IsNoMap (text : List ℕ) (fault : TextFault) : Type 0 where
   pub flaw : IsMapFlaw text fault
   pub none : (s : SettingData) (t : List Row) (adjusted : ℕ) → IsMapText text s t adjusted → ⊥
 
--- memory ran out. Either the fault is at the place of a word, and neither this word nor any word before it has a fault. Or the text has no words, and the fault is at the end of the text
+-- the fault says that memory ran out. Either the place of the fault is the place of a word, and neither this word nor any word before it has a fault. Or the text has no words, and the place of the fault is the end of the text
 pub record IsTextOutOfMemory (text : List ℕ) (fault : TextFault) : Type 0 where
   pub memory : IsOutOfMemory fault
   pub told : IsFoundInTime text fault

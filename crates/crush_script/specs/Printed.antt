@@ -21,6 +21,6 @@ PrintedIsRead = (e : Edit) → IsSaid e → command (line_words (edit_text e)) �
 abbrev pub ReadIsSaid : Type 0
 ReadIsSaid = (words : List (List ℕ)) (e : Edit) → command words ≡ Ok (says.Edit e) → IsSaid e
 
--- PLACED IS READ: if an edit places a device by the name `osd.N`, where N is the device's id, then the printed line of the edit is parsed as the same edit. The id d is below DEVICE_IDS, the weight w is below 2^32, and `at` has the form of a location
+-- PLACED IS READ: if an edit places the device with the id d under the name `osd.N`, where N is this id, then the printed line of the edit is parsed as the same edit. The law requires that the id d is below DEVICE_IDS, that the weight w is below 2^32, and that `at` has the form of a location
 abbrev pub PlacedIsRead : Type 0
 PlacedIsRead = (how : Placing) (d w : ℕ) (at : List Pair) → d < DEVICE_IDS → w < 2 ^ 32 → IsLocation at → command (line_words (edit_text (Place how d (osd_name d) w at))) ≡ Ok (says.Edit (Place how d (osd_name d) w at))

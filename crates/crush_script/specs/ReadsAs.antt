@@ -4,7 +4,7 @@ use Rattle.crush_script.specs.declared.command.LineFault.{LineFault}
 use Rattle.crush_script.specs.declared.command.LineFault.TheVariants.{OutOfMemory}
 use Rattle.crush_script.specs.Command.{Read}
 
--- the first argument is the result of the function. It is the same as `given`, which is the result of the definition, or it says that memory ran out
+-- the result of the function is the first argument. It is the same as `given`, the result of the definition, or it says that memory ran out
 abbrev pub ReadsAs : {X : Type 0} → Result X LineFault → Result X LineFault → Type 0
 ReadsAs (Ok x) given = given ≡ Ok x
 ReadsAs (Err OutOfMemory) given = Unit {0}

@@ -46,7 +46,7 @@ pub record AreScripts (scripts : List ScriptData) : Type 0 where
   pub said : All IsSaidScript scripts
   pub names : AllPairs (λ (a b : List ℕ). bytes_eq a b ≡ false) (names_of scripts)
 
--- whether the bytes end with a line feed, so that a new line begins after them. If there are no bytes, the answer is `starts`, which says whether a line begins at this place
+-- whether the bytes end with a line feed, so that a new line begins after them. If there are no bytes, the result is `starts`, which says whether a new line begins where the bytes would be
 abbrev pub ends_line : Bool → List ℕ → Bool
 ends_line starts [] = starts
 ends_line starts (b ∷ bs) = ends_line (b == 10) bs

@@ -27,7 +27,7 @@ pub record SectionsData : Type 0 where
   pub calls : ℕ
   pub begun : Option BegunBatch
 
--- lists of numbers of lines, as data
+-- the program's lists of line numbers, as plain data
 abbrev pub lines_data : {Z : Type 0} → List (Vec ℕ Z) → List (List ℕ)
 lines_data lines = map (λ numbers. numbers.items) lines
 
@@ -55,7 +55,7 @@ abbrev pub in_line : {X : Type 0} → ℕ → Result X LineFault → Result X Jo
 in_line number (Ok x) = Ok x
 in_line number (Err fault) = Err (fault_at number fault)
 
--- the sections s if there is no open batch. If there is one, the fault OpenBatch with the number of its `begin` line
+-- the sections s if there is no open batch. If there is an open batch, the result is the fault OpenBatch with the number of the batch's `begin` line
 abbrev pub without_batch : SectionsData → Option BegunBatch → Result SectionsData JobFault
 without_batch s None = Ok s
 without_batch s (Some b) = Err (job.OpenBatch b.line)
@@ -68,7 +68,7 @@ closed s = without_batch s s.begun
 abbrev pub has_operator : List ScriptData → List ℕ → Bool
 has_operator scripts name = list_any (λ (s : ScriptData). bytes_eq s.name name) scripts
 
--- the sections with one more section, which has this name and begins in the line `number`. If there are MOST_OPERATORS sections already, the result is the fault TooManyOperators. Otherwise, if one of the sections has the same name, it is DuplicateOperator
+-- the sections with one more section, which has this name and begins in the line `number`. If there are MOST_OPERATORS sections already, the result is the fault TooManyOperators. Otherwise, if one of the sections has the same name, the result is the fault DuplicateOperator
 abbrev pub with_section : ℕ → SectionsData → List ℕ → Result SectionsData JobFault
 with_section number s name =
     if nat_le MOST_OPERATORS (length s.scripts) then Err (job.TooManyOperators number)
@@ -107,7 +107,7 @@ in_batch number s b e =
     if nat_le MOST_EDITS (length b.edits) then Err (bad_line number bad.BatchFull)
     else Ok (with_number number (record s { begun = Some (record { line = b.line; seen = b.seen; edits = b.edits ++ e ∷ [] }) }))
 
--- the sections after one more edit, which the line `number` has. The edit is appended to the open batch. If there is none, the edit is a call of its own
+-- the sections after one more edit, which is in the line `number`. If a batch is open, the edit is appended to this batch. If no batch is open, the edit is a call of its own, and the result is the fault TooManyCalls if there are MOST_CALLS calls already
 abbrev pub with_edit : ℕ → SectionsData → Option BegunBatch → Edit → Result SectionsData JobFault
 with_edit number s None e = counted number s >>= λ more. Ok (with_number number (with_call (One e) more))
 with_edit number s (Some b) e = in_batch number s b e
@@ -134,7 +134,7 @@ with_command number s (says.Edit edit) = with_edit number s s.begun edit
 with_command number s (says.Begin seen) = with_begin number s s.begun seen
 with_command number s says.Commit = with_commit number s s.begun
 
--- the sections after one more line. A line that begins with `%` begins a section, and no batch may be open before it; each other line is a command.
+-- the sections after one more line. A line that begins with `%` begins a section, and no batch may be open before such a line. Each other line is a command, or it has no words.
 unfoldable pub with_line : ℕ → SectionsData → List ℕ → Result SectionsData JobFault
 with_line number s text =
     if begins_section text then (closed s >>= λ r. in_line number (operator (line_words text)) >>= λ name. with_section number r name)
@@ -149,7 +149,7 @@ with_lines number s (text ∷ rest) = with_line number s text >>= λ next. with_
 abbrev pub sections_of : List ℕ → Result SectionsData JobFault
 sections_of job = with_lines (section_line job) no_sections (lines (section_part job))
 
--- for each script, the numbers of the lines that have its edits. If reading the sections failed, there are no such lists
+-- for each script, the numbers of the lines that have its edits. If reading the sections failed, there are no lists of numbers
 abbrev pub lines_in : Result SectionsData JobFault → List (List ℕ)
 lines_in (Ok s) = s.lines
 lines_in (Err fault) = []

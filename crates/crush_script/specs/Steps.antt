@@ -5,7 +5,7 @@ use Rattle.crush_script.specs.declared.fault.JobFault.TheVariants.{Text, OutOfMe
 use Rattle.crush_script.specs.declared.sections.Sections.{Sections}
 use Rattle.crush_script.specs.Sections.{SectionsData, sections_data}
 
--- a function that fails with this fault agrees with the result `given` of its definition: memory ran out, or `given` is the same fault. Such a function never fails with Text or TooLong
+-- a function that fails with this fault agrees with the result `given` of its definition. The function may always fail with OutOfMemory. It never fails with Text or TooLong. If it fails with another fault, `given` is the same fault
 abbrev pub FailsAs : JobFault → Result SectionsData JobFault → Type 0
 FailsAs OutOfMemory given = Unit {0}
 FailsAs (Text fault) given = ⊥

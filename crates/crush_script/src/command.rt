@@ -30,8 +30,8 @@ pub(crate) enum Command {
     /// The line has no words.
     Nothing,
     Edit(Edit),
-    /// The line is `begin`, or it is `begin at N` with this number N. A batch with N is applied
-    /// only if exactly N earlier calls have changed the map.
+    /// The line is `begin`, or it is `begin at N` with this number N. A batch that begins with
+    /// `begin at N` is applied only if exactly N earlier calls have changed the map.
     Begin(Option<u32>),
     Commit,
 }
@@ -51,7 +51,8 @@ fn misfit(word: usize, due: Due) -> LineFault
 }
 
 /// Appends the pair that the word spells to the location `at`. `first` is the index in the line of
-/// the first pair of the location.
+/// the location's first pair. Fails if the word isn't a pair `TYPE=NAME`, if the location already
+/// has 16 pairs, or if memory runs out.
 #[tactic(auto, unfolding(crate::specs::Command::with_pair))]
 fn with_pair(first: usize, at: Location, word: &[u8]) -> Result<Location, LineFault>
     requires { first ≤ 3 }
@@ -69,8 +70,9 @@ fn with_pair(first: usize, at: Location, word: &[u8]) -> Result<Location, LineFa
 }
 
 impl LineWords<'_> {
-    /// Reads the next word as a name. `due` is what the form of the line requires at this word. In
-    /// this method and the following ones, `index` is the index of the word in the line, from 0.
+    /// Reads the next word as a name. `due` is what the form of the line requires at this word. The
+    /// fault names `due` if the word is missing or isn't a name. In this method and the following
+    /// ones, `index` is the index of the word in the line, from 0.
     #[tactic(auto, unfolding(crate::specs::Command::name_at))]
     fn name(&mut self, alloc: Global, index: usize, due: Due) -> Result<Name<Global>, LineFault>
         ensures { ReadsAndLeaves result self.new (name_at index due self.old) }

@@ -12,7 +12,8 @@ use thiserror::Error;
 /// What the form of a line requires at a place.
 #[derive(Clone, Copy, Debug, PartialEq, Eq)]
 pub enum Due {
-    /// The name of a device, `osd.N`.
+    /// The name of a device: `osd.N`, where N is a number from 0 to 2147483647 without leading
+    /// zeros.
     Device,
     /// A weight of at most 4294967295 units. A weight of 1.0 has 65536 units.
     Weight,
@@ -20,11 +21,12 @@ pub enum Due {
     Name,
     /// A pair `TYPE=NAME`, whose two parts are names, or the end of the line.
     Pair,
-    /// The end of the line, because the line already has 16 pairs. A location has at most 16 pairs.
+    /// The end of the line, because the line already has a location with 16 pairs. No location may
+    /// have more pairs.
     NoMorePairs,
     /// The word `at`, or the end of the line.
     At,
-    /// A number of changes, from 0 to 65,536.
+    /// A number of changes, from 0 to 65,536, which is written with digits only.
     Changes,
     /// The end of the line.
     End,
@@ -55,12 +57,13 @@ impl Display for Due {
     }
 }
 
-/// The first word of a line that doesn't fit. Either this word is missing, or it isn't what the
-/// form of the line requires.
+/// The first word that doesn't fit in a line. Either the line ends where this word is required, or
+/// the word isn't what the form of the line requires.
 #[derive(Clone, Copy, Debug, PartialEq, Eq, Error)]
 #[error("word {word}: expected {due}")]
 pub struct Misfit {
-    /// The index of the word in its line. The first word of the line has the index 0.
+    /// The index of this word in its line, from 0. If the word is missing, this is the number of
+    /// words that the line has.
     pub word: usize,
     /// What the form of the line requires at this index.
     pub due: Due,
@@ -100,7 +103,8 @@ pub enum JobFault {
         /// What is wrong with the line.
         why: BadLine,
     },
-    /// The first word of the line isn't the name of a command.
+    /// The first word of the line isn't `begin`, `commit` or the name of a command, and the line
+    /// doesn't begin with `%`.
     #[error("line {0}: NoSuchCommand")]
     NoSuchCommand(usize),
     /// The batch that begins in this line has no `commit` before the next section begins or the job
@@ -118,7 +122,8 @@ pub enum JobFault {
     /// index in the job, which counts bytes from 0.
     #[error("{0}")]
     Text(TextFault),
-    /// The map was read, but memory for the scripts ran out.
+    /// The map was read, but memory for the scripts ran out. The call may report this even if a
+    /// line of the sections is faulty.
     #[error("out of memory")]
     OutOfMemory,
     /// The job has more than 16,777,216 bytes.

@@ -22,8 +22,9 @@ use std::fmt;
 pub struct Job {
     /// The map before any script has run.
     pub map: CrushMap<Global>,
-    /// The number of buckets for which the text gives a weight that isn't the sum of the weights of
-    /// the devices below the bucket. In `map`, each of these buckets has this sum instead.
+    /// The number of buckets for which the map's text gives a weight that isn't the sum of the
+    /// weights of the devices below the bucket. In `map`, each of these buckets has this sum
+    /// instead.
     pub adjusted: Adjusted,
     /// One script for each section, in the order of the sections.
     pub scripts: Vec<Script>,
@@ -49,16 +50,19 @@ impl fmt::Debug for Job {
 
 /// Reads a job: the text of a map, followed by the sections with the operators' scripts.
 ///
-/// `docs/user/FORMATS.md` defines the form of a job. `hashing` says how the indexes of the map hash
-/// names and ids. Use random keys if the bytes come from an untrusted source.
+/// `docs/user/FORMATS.md` defines the form of a job, and `docs/user/RULES.md` lists the faults.
+/// `hashing` says how the indexes of the map hash names and ids. Use a `hashing` with random keys
+/// if the bytes come from an untrusted source.
 ///
 /// The call tests three things in this order, and fails with the first fault: whether there are
 /// more than 16,777,216 bytes, whether the map's text has a fault, and whether a line of the
 /// sections has a fault. If several lines have a fault, the call reports the first of these lines.
-/// The call finds a batch without a `commit` only when the next section begins or the job ends, so
-/// it reports a faulty line inside the batch first. If memory runs out, the call can report this
-/// instead of a fault. While it reads the map's text, it reports this as [`JobFault::Text`]. While
-/// it reads the sections, it reports this as [`JobFault::OutOfMemory`].
+/// There is one exception: the call finds a batch without a `commit` only when the next section
+/// begins or the job ends. So if a line inside of this batch is faulty, the call reports this line.
+///
+/// If memory runs out, the call can report this instead of a fault. If memory runs out while the
+/// call reads the map's text, the error is [`JobFault::Text`]. If memory runs out while the call
+/// reads the sections, the error is [`JobFault::OutOfMemory`].
 pub fn read_job(alloc: Global, hashing: Hashing, bytes: &[u8]) -> Result<Job, JobFault>
     ensures job { IfOk result (λ read. (job : JobData) × IsJob bytes.now job × JobStands read job) }
     ensures only { (job : JobData) → IsJob bytes.now job

@@ -20,8 +20,8 @@ pub enum Form {
 impl Form {
     ghost use Rattle.crush_script.specs.Keyword.{form_of, form_text};
 
-    /// Returns the meaning of the first word of a line of a section, or `None` if no such line may
-    /// begin with this word.
+    /// Returns the meaning of `first`, the first word of a line of a section. Returns `None` if no
+    /// such line may begin with this word.
     #[tactic(auto, unfolding(crate::specs::Keyword::form_of))]
     pub fn read(first: &[u8]) -> Option<Form>
         ensures { result ≡ form_of first.now }
@@ -38,7 +38,8 @@ impl Form {
     }
 
     /// Returns the form of the line as text, for example `reweight NAME WEIGHT`. A line that begins
-    /// with `begin` can have two forms. For these lines, this is the longer form, `begin at N`.
+    /// with `begin` can have two forms, `begin` and `begin at N`. For such a line, returns the
+    /// longer form.
     pub fn text(self) -> &'static str
         ensures { result.now ≡ form_text self }
     {

@@ -1,9 +1,11 @@
 //! Reads jobs. A job is the text of a map, followed by sections. Each section has the script of one
-//! operator: a line `%operator NAME`, and then lines with one command each.
+//! operator. A section begins with a line `%operator NAME`. Each further line of the section has a
+//! command, begins or ends a batch of commands, or has no words.
 //!
-//! [`read_job`] reads a whole job. If the bytes aren't a job, it fails with their first fault, a
-//! [`JobFault`]. It reads the map's text with `crush_text`. The crate `crush_run` runs jobs.
-//! `specs/Job.antt` defines what a job is.
+//! [`read_job`] reads a whole job, and reads the map's text with `crush_text`. If the bytes aren't
+//! a job, [`read_job`] fails with their first fault, a [`JobFault`]. If memory runs out, it can
+//! report this instead. The crate `crush_run` runs jobs. The file `specs/Job.antt` defines what a
+//! job is.
 #![tactic(auto)]
 
 mod command;

@@ -39,7 +39,7 @@ pub(crate) fn cut_job(job: &[u8]) -> (&[u8], &[u8])
     job.split_at(length_to_section(job))
 }
 
-/// Returns the number of line feeds of a text.
+/// Returns the number of line feeds in a text.
 pub fn line_feeds(text: &[u8]) -> usize
     ensures count { result ≡ line_feeds text.now }
     ensures within { result ≤ length text.now }
@@ -118,8 +118,8 @@ fn word_at(text: &[u8]) -> usize
     text.len()
 }
 
-/// The words of a line of a section that haven't been read yet. In contracts, the value of this
-/// type is the list of these words.
+/// The words of a line of a section that haven't been read yet. In contracts, a value of this type
+/// is the list of these words.
 #[derive(Drop)]
 pub(crate) struct LineWords<'a> {
     text: &'a [u8],
@@ -136,7 +136,8 @@ impl<'a> Model for LineWords<'a> {
 }
 
 impl<'a> LineWords<'a> {
-    /// Returns all words of a line. Spaces and tabs separate words.
+    /// Returns all words of a line, none of which has been read yet. Spaces and tabs separate
+    /// words.
     ///
     /// A `#` anywhere in the line begins a comment, which has no words. A carriage return at the
     /// end of the line is ignored. `line` must not have a line feed at its end, because a line feed
@@ -212,11 +213,14 @@ fn from_word(index: usize, text: &[u8]) -> &[u8]
     from_blanks(rest)
 }
 
-/// Returns the word at this index of a line, and its place. The index counts from 0.
+/// Returns the word at this index of a line, and its place. The index counts words from 0, and the
+/// place counts bytes from 0.
 ///
-/// Spaces and tabs separate words, and `#` begins a comment. If the line has no word at this index,
-/// the returned word has no bytes. Its place is then the place of the line's comment. If there is
-/// no comment, its place is the end of the line, before a carriage return at this end.
+/// Spaces and tabs separate words, and `#` begins a comment. `line` must not have a line feed at
+/// its end, because a line feed would be part of a word. If the line has no word at this index, the
+/// returned word has no bytes. The place is then where the line's comment begins. If there is no
+/// comment either, the place is the end of the line, or the place of the carriage return with which
+/// the line ends.
 pub fn placed_word(line: &[u8], index: usize) -> PlacedWord<'_>
     ensures place { result.place ≡ place_in_line index line.now }
     ensures text { result.text.now ≡ word_in_line index line.now }

@@ -20,7 +20,8 @@ use std::alloc::Global;
 pub(crate) struct BegunBatch {
     /// The number of the line with the batch's `begin`.
     pub(crate) line: usize,
-    /// The number N if the batch begins with `begin at N`. `None` if the batch begins with `begin`.
+    /// The number N if the batch begins with `begin at N`, and `None` if the batch begins with
+    /// `begin`.
     pub(crate) seen: Option<u32>,
     pub(crate) edits: Edits,
 }
@@ -233,8 +234,8 @@ impl Sections {
     }
 }
 
-/// Reads all lines of the sections. `first` is the number of the first of these lines. Lines are
-/// numbered from 1, beginning with the first line of the job.
+/// Reads all lines of the sections. `text` has these lines, and `first` is the number of the first
+/// of them. Lines are numbered from 1, beginning with the first line of the job.
 #[tactic(auto, unfolding(crate::specs::Sections::with_lines))]
 pub(crate) fn read_sections(alloc: Global, first: usize, text: &[u8]) -> Result<Sections, JobFault>
     requires begins { 0 < length text.now → begins_section text.now ≡ true }
