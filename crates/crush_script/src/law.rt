@@ -1,7 +1,7 @@
-//! Laws about scripts. A *law* is a statement that is proved about definitions: here, about how
-//! edits and scripts are printed and read. If edits and scripts are printed, they are read back as
-//! the same edits and scripts. A fault names the first word of its line that doesn't fit. Each law
-//! is the contract of a function that does nothing at run time.
+//! Laws about scripts. A *law* is a proved statement about definitions. The laws say that printed
+//! edits and printed scripts are read back as the same edits and scripts, and that a fault names
+//! the first word of its line that doesn't fit. Each law is the contract of a function that does
+//! nothing at run time.
 
 ghost use Rattle.crush_script.specs.FirstMisfit.{MisfitsOfCommands, MisfitsOfOperators};
 ghost use Rattle.crush_script.specs.Printed.{PlacedIsRead, PrintedIsRead, ReadIsSaid};

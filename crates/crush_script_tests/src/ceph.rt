@@ -1,5 +1,5 @@
-//! The commands of Ceph for a list of edits. Expected values follow the rules of `--as-ceph` in
-//! docs/user/FORMATS.md.
+//! Tests the commands of Ceph that are printed for a list of edits. The expected values follow the
+//! rules of the option `--as-ceph` in docs/user/FORMATS.md.
 
 use crush_ceph::{ceph_text, redo_edit};
 use crush_edits::Edit;
@@ -9,7 +9,8 @@ use crush_script::{Job, read_job};
 use std::alloc::Global;
 use std::process::Abort;
 
-/// A map with a rule that takes `default` with a class, and the head of a batch for this map.
+/// The beginning of a job: a map, and the lines with which an operator's batch begins. A rule of
+/// the map takes the bucket `default` with a class.
 const BEFORE: &[u8] =
     b"device 0 osd.0 class hdd\ndevice 1 osd.1 class hdd\ndevice 2 osd.2\ntype 0 osd\ntype 1 host\ntype 3 rack\ntype 11 root\nhost h1 {\nid -2\nalg straw2\nitem osd.0 weight 1.00000\nitem osd.1 weight 1.00000\n}\nroot default {\nid -1\nalg straw2\nitem h1 weight 2.00000\n}\nroot spare {\nid -3\nalg straw2\n}\nrule fast {\nid 0\ntype replicated\nstep take default class hdd\nstep emit\n}\nrule all {\nid 1\ntype replicated\nstep take spare\nstep emit\n}\n%operator a\nbegin\n";
 

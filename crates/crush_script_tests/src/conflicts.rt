@@ -1,5 +1,6 @@
-//! Changes of operators' scripts that a run has lost. Expected values follow the forms in
-//! docs/user/FORMATS.md.
+//! Tests which changes of operators' scripts are lost in a run. A change is lost if an operator's
+//! script makes the change when it runs alone, and the map after the run doesn't have the change.
+//! The expected values follow the forms in docs/user/FORMATS.md.
 
 use crate::histories::entries_of;
 use crate::maps::map_of;
@@ -22,7 +23,7 @@ const MAP: &[u8] = b"\
     host h2 { id -3 alg straw2 hash 0 item osd.2 weight 0.5 }\n\
     root default { id -1 alg straw2 hash 0 item h1 item h2 }\n";
 
-/// Appends the second entries to the first.
+/// Appends the entries `more` to `entries`. Both are lists of entries of a history.
 fn push_entries(rt: &impl Abort, more: Vec<Entry>, entries: &mut Vec<Entry>) {
     for entry in more {
         let Ok(()) = entries.push(entry) else {
@@ -31,7 +32,9 @@ fn push_entries(rt: &impl Abort, more: Vec<Entry>, entries: &mut Vec<Entry>) {
     }
 }
 
-/// Whether these lines are the lost changes if alice's script runs and then bob's.
+/// Whether `lines` are the printed lines about lost changes after a run of two scripts. The first
+/// script runs as a whole, and then the second script. If there aren't exactly two scripts, returns
+/// false.
 fn are_lost(rt: &(impl Abort + AllocGlobal), scripts: &[u8], lines: &[u8]) -> bool {
     let mut job = Vec::new(rt.alloc());
     job.extend_from_slice(MAP).expect(rt, "no memory");

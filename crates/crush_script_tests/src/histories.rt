@@ -1,4 +1,4 @@
-//! Makes the calls of one operator, and returns their history.
+//! Applies the calls of one operator to a map, and returns their history.
 
 ghost use Rattle.std.specs.Prelude.{◌<◌, length};
 ghost use Rattle.crush_history.specs.Entries.{AreOf};
@@ -8,7 +8,9 @@ use crush_map::CrushMap;
 use std::alloc::Global;
 use std::process::Abort;
 
-/// Makes the calls of one operator's script on the map, and returns the history's entries.
+/// Applies the calls of one operator's script to the map, in their order. Returns the entries of
+/// the history: each call with its reply. `operator` is the index of the script in `scripts`, from
+/// 0.
 pub fn entries_of(
     rt: &(impl Abort + AllocGlobal),
     map: &mut CrushMap<Global>,

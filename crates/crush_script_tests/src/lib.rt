@@ -1,12 +1,14 @@
-//! Tests the texts of maps, jobs, and all that is printed about maps. The tests call only public
-//! functions.
+//! Tests how the texts of maps and jobs are read, and everything that is printed about maps. The
+//! tests call only public functions.
 //!
-//! `script` tests `crush_text`, `crush_print`, `crush_history`, `crush_script` and `crush_units`;
-//! `view` tests `crush_print`, `crush_items`, `crush_compare` and `crush_since`; `plan` tests
-//! `crush_plan`, and `crush_since` by names; `json` tests `crush_json`; `reasons` tests
-//! `crush_reasons`; `ceph` tests `crush_ceph`; `conflicts` tests `crush_conflicts`. A test calls
-//! `drop` for each map, job and call that it owns, so that the proofs about freeing its parts are
-//! needed in one place only.
+//! The module `script` tests `crush_text`, `crush_print`, `crush_history`, `crush_script` and
+//! `crush_units`. The module `view` tests `crush_print`, `crush_items`, `crush_compare` and
+//! `crush_since`. The module `plan` tests `crush_plan`, and it tests `crush_since` for maps whose
+//! items are matched by their names. The module `json` tests `crush_json`, `reasons` tests
+//! `crush_reasons`, `ceph` tests `crush_ceph`, and `conflicts` tests `crush_conflicts`.
+//!
+//! A test calls `drop` for each map, job and call that it owns. So the proofs about freeing the
+//! parts of these values are needed in only one place.
 #![tactic(auto)]
 
 #[cfg(test)]

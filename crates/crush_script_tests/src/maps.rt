@@ -1,5 +1,5 @@
-//! Parses the text of a map, and has the example map from which the tests of plans and of documents
-//! start.
+//! Parses the text of a map. This file also has the example map, with which the tests of plans and
+//! of documents begin.
 
 use crush_map::CrushMap;
 use crush_text::read_map;

@@ -1,5 +1,6 @@
-//! Tests plans that lead from the example map to other maps, and back. The expected values were
-//! worked out by hand from the steps of a plan in docs/dev/plan.md.
+//! Tests plans, which are lists of commands that change one map into another map. The plans lead
+//! from the example map to other maps, and back. The expected values were worked out by hand from
+//! the steps of a plan in docs/dev/plan.md.
 
 mod maps;
 mod names_part;
@@ -155,8 +156,8 @@ fn other_ids_of_hosts_are_told_aside(rt: HostRuntime) {
 
 #[test]
 fn of_a_part_no_device_outside_is_weighed(rt: HostRuntime) {
-    // The plan moves h1 into r1. But osd.1, which is below h1 before the plan, has to be in h2,
-    // which is outside r1.
+    // The plan moves h1 into r1. The device osd.1 is in h1 in the first map, but it is in h2 in the
+    // wanted map. h2 is outside of r1, so a plan for r1 doesn't set the weight of osd.1.
     assert!(rt;
         is_planned_under(
             &rt,
@@ -257,7 +258,7 @@ fn one_weight_below_a_bucket_is_one_command(rt: HostRuntime) {
 
 #[test]
 fn a_weight_that_a_later_command_sets_is_not_lowered_first(rt: HostRuntime) {
-    // osd.0 and osd.1 become lighter, and osd.2 becomes heavier.
+    // The weights of osd.0 and osd.1 become smaller, and the weight of osd.2 becomes greater.
     assert!(rt;
         is_planned(
             &rt,
@@ -280,7 +281,8 @@ fn a_weight_that_no_later_command_sets_is_lowered_first(rt: HostRuntime) {
 
 #[test]
 fn classes_are_set_class_by_class(rt: HostRuntime) {
-    // The wanted map has ssd first, and then hdd.
+    // In the tree of the wanted map, the class ssd occurs before the class hdd. So the plan sets
+    // the class ssd first.
     assert!(rt;
         is_planned(
             &rt,
@@ -393,7 +395,7 @@ fn are_lines(lines: &[Vec<u8>], expected: &[&[u8]]) -> bool {
     true
 }
 
-/// What differs between `EXAMPLE` and `OTHERWISE`.
+/// The lines about what differs between the map `EXAMPLE` and the wanted map `OTHERWISE`.
 const WHAT_DIFFERS: &[&[u8]] = &[
     b"h1: type host, wanted rack; alg straw2, wanted list",
     b"osd.1: weight 1.00000, wanted 2.00000; class (none), wanted hdd",

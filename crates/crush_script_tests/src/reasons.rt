@@ -166,7 +166,7 @@ fn a_misspelt_class_and_a_bucket_below_are_told(rt: HostRuntime) {
     );
 }
 
-/// The map's rule takes a bucket that is defined after the rule.
+/// The text of a map whose rule takes a bucket that is defined after the rule.
 const TAKEN_BELOW: &[u8] =
     b"type 1 root\nrule r {\nid 0\ntype replicated\nstep take default\nstep emit\n}\nroot default {\nid -1\nalg straw2\n}\n";
 
@@ -469,11 +469,12 @@ fn a_name_with_an_escape_is_told_without_it(rt: HostRuntime) {
     );
 }
 
-/// Two scripts in one job, each after the line that names its operator.
+/// A job that was joined from a map and the scripts of two files. Each script comes after the line
+/// that names its operator.
 const JOINED: &[u8] = b"# nothing\n%operator alice\nrm x\n%operator bob\nrm y\nfly z\n";
 
-/// The `%operator` line that was added before the second script names the operator of the first
-/// script.
+/// A job like `JOINED`, but the `%operator` line that was added before the second script names the
+/// operator of the first script.
 const DUPLICATE: &[u8] = b"# nothing\n%operator alice\nrm x\n%operator alice\nrm y\n";
 
 #[test]
@@ -585,7 +586,8 @@ fn a_mistyped_type_is_told_with_the_type_that_is_meant(rt: HostRuntime) {
     drop(job);
 }
 
-/// The second command of the batch uses the host that the first one creates.
+/// A job whose batch has two commands. The first command creates the host `edge`, and the second
+/// command uses this host.
 const CREATING: &[u8] =
     b"device 0 osd.0\ntype 1 host\ntype 2 rack\nhost host1 {\nid -1\nalg straw2\nitem osd.0 weight 1\n}\nrack rack1 {\nid -2\nalg straw2\nitem host1 weight 1\n}\n%operator a\nadd osd.9 1 host=hots1 rack=rack1\nadd-bucket host2 host\nbegin\nadd osd.8 1 host=edge rack=rakc1\nadd osd.7 1 host=edge\ncommit\n";
 

@@ -1,6 +1,6 @@
-//! Tests maps and jobs that are read from texts, and the texts that are written for them. The
-//! expected values follow the forms in docs/user/FORMATS.md. Cases that a short file can show are
-//! in the data of `crush_examples` instead.
+//! Tests how maps and jobs are read from texts, and how texts are written for them. The expected
+//! values follow the forms in docs/user/FORMATS.md. The data of `crush_examples` has the cases that
+//! a short file can show.
 
 mod heaps;
 mod histories;
@@ -77,7 +77,7 @@ fn is_no_job(rt: &impl AllocGlobal, text: &[u8], fault: &JobFault) -> bool {
     }
 }
 
-/// The example map without tunables and rules.
+/// The printed text of the example map without its tunable and its rule.
 const PLAIN_EXAMPLE_MAP: &[u8] = b"\
     # begin crush map\n\
     \n\

@@ -1,7 +1,9 @@
 //! Has the texts of maps, and the JSON documents that are expected for these maps.
 
-/// The document that `crushtool --dump` prints, with three differences: the other tunables are left
-/// out, members are in the order of their names, and everything is on one line.
+/// The expected document for the example map. It has the same devices, types, buckets and rules as
+/// the output of `crushtool --dump` for this map. In contrast to this output, these lists are
+/// inside of the member `map`, the tunables are only those of the map's text, the members of each
+/// object are in the order of their names, and everything is on one line.
 pub const EXAMPLE_DOCUMENT: &[u8] = b"\
     {\"map\":{\
     \"buckets\":[\
@@ -35,8 +37,8 @@ pub const CLASSED_MAP: &[u8] = b"\
     rule slow { id 5 type erasure step set_choose_tries 100 step take default class hdd step choose indep -1 type root step emit }\n\
     rule fast { id 2 type any step take default class ssd step emit }\n";
 
-/// The rule `slow` takes a class for which the bucket has no class id, so the step that takes it
-/// has no `item`.
+/// The expected document for `CLASSED_MAP`. The rule `slow` takes the bucket `default` with a class
+/// for which this bucket has no class id. So the step `take` of this rule has no `item`.
 pub const CLASSED_DOCUMENT: &[u8] = b"\
     {\"map\":{\
     \"buckets\":[\
@@ -59,7 +61,8 @@ pub const CLASSED_DOCUMENT: &[u8] = b"\
 pub const EMPTY_DOCUMENT: &[u8] =
     b"{\"map\":{\"buckets\":[],\"devices\":[],\"rules\":[],\"tunables\":{},\"types\":[]}}\n";
 
-/// A job with a command of each kind. The replies to the commands have all forms of replies.
+/// A job with a command of each kind, and with batches. The replies to its calls have all forms of
+/// replies.
 pub const JOB: &[u8] = b"\
     type 1 root\n\
     root default { id -1 alg straw2 hash 0 }\n\
@@ -129,7 +132,7 @@ pub const JOB_DOCUMENT: &[u8] = b"\
     \"devices\":[],\"rules\":[],\"tunables\":{},\
     \"types\":[{\"name\":\"root\",\"type_id\":1}]}}\n";
 
-/// A map with a device that is in no bucket, and without a type 0.
+/// A map with a device that is in no bucket. The map has no type with the number 0.
 pub const STRAY_MAP: &[u8] = b"\
     device 7 osd.7 class ssd\n\
     device 3 osd.3\n\

@@ -1,5 +1,5 @@
-//! Tests the JSON documents of plans. They have the commands in the form that a Ceph monitor
-//! accepts.
+//! Tests the JSON documents of plans. In these documents, the commands have the form that a Ceph
+//! monitor accepts.
 
 use crush_history::Call;
 use crush_json::write_plan_document;
@@ -27,7 +27,8 @@ const COMMANDS: &[u8] = b"\
 
 const REST: &[&[u8]] = &[b"osd.1: class hdd, wanted (none)", b"tunables differ"];
 
-/// The expected document. The keys of its commands are the keys in Ceph's own table of commands.
+/// The expected document. The members of its commands have the names that Ceph's own table of
+/// commands uses.
 const PLAN: &[u8] = b"\
     {\"aside\":{\"class_ids\":1,\"ids\":2},\"plan\":[\
     {\"args\":[\"host=h3\",\"root=default\"],\"id\":3,\"prefix\":\"osd crush add\",\"weight\":0.332993},\

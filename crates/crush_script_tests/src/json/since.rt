@@ -27,8 +27,9 @@ const MOVING: &[u8] = b"\
     %operator a\n\
     create-or-move osd.0 5.0 host=h2\n";
 
-/// The device moves from h1 to h2 and keeps its weight of 1.0. So the weight of h1 changes from 2.0
-/// to 1.0, the weight of h2 changes from 0.5 to 1.5, and the total remains 2.5.
+/// The expected document after the device osd.0 was moved. The device moves from h1 to h2 and keeps
+/// its weight of 1.0. So the weight of h1 changes from 2.0 to 1.0, the weight of h2 changes from
+/// 0.5 to 1.5, and the total remains 2.5.
 const MOVED: &[u8] = b"\
     {\"since\":{\"classes\":[],\
     \"counts\":{\"class\":0,\"made\":0,\"moved\":1,\"removed\":0,\"renamed\":0,\"weight\":2},\
@@ -53,7 +54,8 @@ const MOVED_BELOW: &[u8] = b"\
     \"is\":{\"name\":\"osd.0\",\"parent\":\"h2\",\"type\":\"osd\",\"weight\":65536},\
     \"was\":{\"name\":\"osd.0\",\"parent\":\"h1\",\"type\":\"osd\",\"weight\":65536}}]}}\n";
 
-/// A root has no parent, and neither has a device that is in no bucket.
+/// The expected document if the old map is empty and the new map is `STRAY_MAP`. A root has no
+/// member `parent`. A device that is in no bucket has no such member either.
 const MADE: &[u8] = b"\
     {\"since\":{\
     \"classes\":[{\"is\":98304,\"name\":\"ssd\",\"taken\":false,\"was\":0}],\
@@ -65,8 +67,8 @@ const MADE: &[u8] = b"\
     \"is\":{\"class\":\"ssd\",\"name\":\"osd.7\",\"parent\":\"default\",\"type\":\"osd\",\"weight\":98304}}],\
     \"rules\":[],\"total\":[0,98304],\"tunables\":false,\"types\":true}}\n";
 
-/// Two maps with the same items. In the second map the bucket has another algorithm and another
-/// class id, and the device has another class.
+/// The first of two maps with the same items. In the second map, `CLASSES_AFTER`, the bucket has
+/// another algorithm and another class id, and the device has another class.
 const CLASSES_BEFORE: &[u8] = b"\
     device 0 osd.0 class hdd\n\
     type 1 root\n\

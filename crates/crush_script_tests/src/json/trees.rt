@@ -1,5 +1,5 @@
-//! Tests the JSON documents that show a map as a tree. The weights in these documents are in units
-//! of 1/65536.
+//! Tests the JSON documents that show a map as a tree. In these documents, weights are in units of
+//! 1/65536.
 
 use super::maps::STRAY_MAP;
 use crate::maps::EXAMPLE_MAP;

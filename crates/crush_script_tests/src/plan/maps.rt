@@ -1,5 +1,6 @@
-//! Has the maps between which plans lead. The text of a map is a list of parts, so that several
-//! maps can share the lines in which they agree. Most maps are the example map with one difference.
+//! Has the maps between which the plans of the tests lead. The text of a map is a list of parts, so
+//! that several maps can share the lines that are the same. Most maps are the example map with one
+//! difference.
 
 use crate::maps::{EXAMPLE_MAP, map_of};
 use crush_map::CrushMap;
@@ -141,7 +142,8 @@ pub const EVEN: &[&[u8]] = &[
     END,
 ];
 
-/// The device osd.0 is in h2, where both devices have the weight 0.75, and osd.1 has the weight 0.25.
+/// The device osd.0 is in h2, and both devices of h2 have the weight 0.75. osd.1 has the weight
+/// 0.25.
 pub const MOVED_AND_LIGHTER: &[&[u8]] = &[
     HEAD,
     b"host h1 { id -2 alg straw2 hash 0 item osd.1 weight 0.25 }\n",
@@ -169,7 +171,7 @@ pub const OTHER_CLASSES: &[&[u8]] = &[
     END,
 ];
 
-/// An empty host has the name osd.3.
+/// An empty host has the name osd.3, which is the name of a device in other maps.
 pub const HOST_AS_DEVICE: &[&[u8]] = &[
     HEAD,
     H1,
@@ -190,7 +192,8 @@ pub const DEVICE_IN_H2: &[&[u8]] = &[
     END,
 ];
 
-/// The weight of osd.0 is 1.81898, which isn't a whole number.
+/// The weight of osd.0 is 1.81898. This isn't a whole number of units (1/65536), so `crushedit`
+/// rounds the weight to 119209 units.
 pub const HEAVY: &[&[u8]] = &[
     HEAD,
     b"host h1 { id -2 alg straw2 hash 0 item osd.0 weight 1.81898 item osd.1 weight 1.0 }\n",
@@ -198,8 +201,9 @@ pub const HEAVY: &[&[u8]] = &[
     END,
 ];
 
-/// The map `HEAVY` in the form in which Ceph's own tool prints it. The tool cuts the weight of
-/// osd.0, so the printed weight is one unit less.
+/// The map `HEAVY` after `crushtool` has compiled its text and has printed it again. When
+/// `crushtool` compiles the text, it rounds the weight of osd.0 down to 119208 units. This is one
+/// unit less than in `HEAVY`.
 pub const HEAVY_CUT: &[&[u8]] = &[
     HEAD,
     b"host h1 { id -2 alg straw2 hash 0 item osd.0 weight 1.81897 item osd.1 weight 1.0 }\n",
@@ -207,8 +211,9 @@ pub const HEAVY_CUT: &[&[u8]] = &[
     END,
 ];
 
-/// This map differs from the example map in the type and the algorithm of h1, the weight and the
-/// class of osd.1, and the place of osd.0. osd.2 is missing, and osd.3 and h3 are new.
+/// This map differs from the example map in the type and the algorithm of h1, in the weight and the
+/// class of osd.1, and in the place of osd.0. The device osd.2 is missing, and osd.3 and h3 are
+/// new.
 pub const OTHERWISE: &[&[u8]] = &[
     TUNABLE,
     b"device 0 osd.0\ndevice 1 osd.1 class hdd\ndevice 3 osd.3\n",
@@ -230,7 +235,7 @@ pub const RETYPED: &[&[u8]] = &[
 
 const ROW_TYPES: &[u8] = b"type 0 osd\ntype 1 host\ntype 4 row\ntype 11 root\n";
 
-/// A bucket of the type row that has a device, and an empty root that a rule takes.
+/// This map has a bucket of the type row with one device, and an empty root that the rule takes.
 pub const NAMES_OF_OTHER_TYPES: &[&[u8]] = &[
     b"device 2 osd.2\ndevice 4 osd.4\n",
     ROW_TYPES,
@@ -239,7 +244,8 @@ pub const NAMES_OF_OTHER_TYPES: &[&[u8]] = &[
     b"rule r { id 0 type replicated step take other step chooseleaf firstn 0 type host step emit }\n",
 ];
 
-/// The row and the root have exchanged their names and items, and osd.4 has a class.
+/// The map `NAMES_OF_OTHER_TYPES` in which the row and the root have exchanged their names and
+/// items, and osd.4 has a class.
 pub const NAMES_EXCHANGED: &[&[u8]] = &[
     b"device 2 osd.2\ndevice 4 osd.4 class hdd\n",
     ROW_TYPES,
@@ -248,7 +254,7 @@ pub const NAMES_EXCHANGED: &[&[u8]] = &[
     b"rule r { id 0 type replicated step take r1 step chooseleaf firstn 0 type host step emit }\n",
 ];
 
-/// Two roots with one host each.
+/// This map has two roots with one host each.
 pub const TWO_ROOTS: &[&[u8]] = &[
     DEVICES,
     TYPES,
@@ -258,7 +264,8 @@ pub const TWO_ROOTS: &[&[u8]] = &[
     b"root r2 { id -4 alg straw2 hash 0 item h2 }\n",
 ];
 
-/// The two hosts are swapped: each of them has the id and the parent of the other host.
+/// The two hosts of `TWO_ROOTS` are swapped: each of them has the id and the parent of the other
+/// host.
 pub const TWO_ROOTS_SWAPPED: &[&[u8]] = &[
     DEVICES,
     TYPES,
@@ -279,7 +286,7 @@ pub const REGION_9: &[&[u8]] = &[
     ROOT,
 ];
 
-/// The type region has the number 10, and there is a region.
+/// The type region has the number 10, and the bucket `eu` has this type.
 pub const REGION_10: &[&[u8]] = &[
     TWO_DEVICES,
     b"type 0 osd\ntype 1 host\ntype 9 zone\ntype 10 region\ntype 11 root\n",
@@ -294,8 +301,9 @@ const N1: &[u8] = b"host n1 { id -3 alg straw2 hash 0 item osd.0 weight 1.0 }\n"
 
 const ROOT_OF_THREE: &[u8] = b"root default { id -1 alg straw2 hash 0 item n1 item n2 item n3 }\n";
 
-/// Three hosts with the ids that a Ceph monitor gives them. The monitor also gives ids to the class
-/// trees, so some ids are skipped.
+/// Three hosts with the ids that a Ceph monitor gives them. For each bucket and each device class,
+/// Ceph keeps a copy of the bucket. The monitor also gives ids to these copies, so the ids of the
+/// hosts don't follow one another.
 pub const HOSTS_OF_CEPH: &[&[u8]] = &[
     DEVICES,
     HOST_TYPES,
@@ -305,7 +313,8 @@ pub const HOSTS_OF_CEPH: &[&[u8]] = &[
     ROOT_OF_THREE,
 ];
 
-/// The hosts of `HOSTS_OF_CEPH` with the ids nearest to 0. Here n3 has the id that n2 has there.
+/// The hosts of `HOSTS_OF_CEPH` with ids that follow one another. In this map, n3 has the id that
+/// n2 has in `HOSTS_OF_CEPH`.
 pub const HOSTS: &[&[u8]] = &[
     DEVICES,
     HOST_TYPES,

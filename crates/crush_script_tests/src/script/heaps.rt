@@ -29,7 +29,7 @@ fn the_plain_example_map_is_read_into_a_heap(rt: HostRuntime) {
 }
 
 /// Whether the fault is that memory ran out. In the smallest heap, memory runs out for the first
-/// device, whose name is at byte 38.
+/// device, whose name begins at byte 38 of the text.
 fn is_lack(fault: TextFault, is_smallest: bool) -> bool {
     fault.kind == TextFaultKind::OutOfMemory
         && fault.place < PLAIN_EXAMPLE_MAP.len()

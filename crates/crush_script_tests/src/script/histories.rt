@@ -21,9 +21,9 @@ const SCRIPT: &[u8] = b"\
     commit\n\
     rm x\n";
 
-/// The history of the script. The weight of osd.2 is 0.5 in the map, so the first call changes it.
-/// In the batch, hq is the host that was h1. It has two devices, so the edit at position 1 can't
-/// remove it. The map has no item with the name x.
+/// The history of the script. The weight of osd.2 is 0.5 in the map, so the first call changes this
+/// weight. In the batch, hq is the new name of the host h1. This host has two devices, so the
+/// batch's second edit (with the index 1) can't remove it. The map has no item with the name x.
 const LINES: &[u8] = b"\
     # 1 a reweight osd.2 1.00000 = done changed 1 made 0\n\
     # 2 a begin ; rename-bucket h1 hq ; rm hq ; commit = refused at 1 NotEmpty 39\n\

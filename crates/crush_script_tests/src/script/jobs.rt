@@ -117,8 +117,8 @@ fn misfit_in(line: usize, word: usize, due: Due) -> JobFault {
     }
 }
 
-/// Lines with a word that doesn't fit: the line, the index of this word, and what is expected at
-/// its place.
+/// Lines in which a word doesn't fit or is missing. For each line, the list has the line, the index
+/// of this word from 0, and what is expected at this index.
 const MISFITS: &[(&[u8], usize, Due)] = &[
     (b"add h1 1 host=h1", 1, Due::Device),
     (b"add \"osd.0\" 1 host=h1", 1, Due::Device),

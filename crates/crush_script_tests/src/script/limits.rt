@@ -1,5 +1,6 @@
-//! Tests the largest numbers of devices and of buckets and the greatest weight that a map can have,
-//! and that one more is rejected. The other limits are in examples/refused/limits.txt.
+//! Tests the largest number of devices, the largest number of buckets and the greatest weight that
+//! a map can have. The tests also check that a text with one more device, bucket or unit of weight
+//! is rejected. The other limits are in examples/refused/limits.txt.
 
 use crate::maps::map_of;
 use crate::script::{is_refused_behind, joined, put_behind};
@@ -12,8 +13,8 @@ fn put_number(rt: &(impl Abort + AllocGlobal), text: &mut Vec<u8>, number: u32) 
     put_behind(rt, text, digits.as_bytes());
 }
 
-/// Appends the line. Each `@` in it is replaced by the number `number`, and each `~` by the number
-/// before that.
+/// Appends the line to the text. Each `@` in the line is replaced by `number`, and each `~` by the
+/// number before `number`.
 fn put_line(rt: &(impl Abort + AllocGlobal), text: &mut Vec<u8>, line: &[u8], number: u32) {
     for byte in line {
         match *byte {
@@ -62,8 +63,8 @@ fn at_most_65536_devices(rt: HostRuntime) {
     assert!(rt; is_refused);
 }
 
-/// Returns the text of a map with 4,096 buckets. The item of each bucket is the bucket of the
-/// previous line; the first bucket has no items.
+/// Returns the text of a map with 4,096 buckets. The first bucket has no items. Each other bucket
+/// has one item: the bucket of the previous line.
 fn chain(rt: &(impl Abort + AllocGlobal)) -> Vec<u8> {
     let before = b"type 1 host\nhost b1 { id -1 alg straw2 }\n";
     let line = b"host b@ { id -@ alg straw2 item b~ weight 0 }\n";
@@ -94,14 +95,14 @@ fn at_most_4096_buckets(rt: HostRuntime) {
 
 const THREE_DEVICES: &[u8] = b"device 1@ d@\ndevice 2@ e@\ndevice 3@ f@\n";
 
-/// A host whose devices weigh 2147483647, 2147483647 and 1 units. Their sum is the most that a
-/// bucket can weigh.
+/// A line with a host. The devices of the host weigh 2147483647, 2147483647 and 1 units. The sum of
+/// these weights is the greatest weight that a bucket can have.
 const HOST_OF_THREE: &[u8] = b"\
     host h@ { id -1@ alg straw2 item d@ weight 32767.99998 item e@ weight 32767.99998 \
     item f@ weight 0.00002 }\n";
 
-/// Returns the text of a map with 2,048 hosts that weigh 4294967295 units each. The text ends in
-/// the middle of one more host, before the weight of its device.
+/// Returns the beginning of a map's text, which has 2,048 hosts that weigh 4294967295 units each.
+/// The returned text ends inside of one more host, before the weight of its device.
 fn heaviest(rt: &(impl Abort + AllocGlobal)) -> Vec<u8> {
     let mut text = with_lines(rt, b"type 1 host\ndevice 0 d\n", THREE_DEVICES, 0..2048);
     put_lines(rt, &mut text, HOST_OF_THREE, 0..2048);

@@ -1,5 +1,5 @@
-//! Tests lines of a history that are written for copies of calls. No job of these tests has such
-//! lines.
+//! Tests lines of a history that are written for copies of calls. The tests choose the replies
+//! freely, so most of these lines can't occur in a run.
 
 use crush_edits::{Done, Dones, Edit, Refusal};
 use crush_history::{Call, Edits, Line, Reply};
@@ -55,14 +55,16 @@ fn is_single(rt: &impl AllocGlobal, call: &Call) -> bool {
     has_line(rt, call, (4, "b"), done, line) && has_line(rt, call, (65536, "op-1"), refused, last)
 }
 
-/// Tests the line of a batch that has one edit and is refused with the reply of a single edit.
+/// Whether the right line is written for a batch with one edit whose reply is the reply to a single
+/// edit that was refused.
 fn is_batch(rt: &impl AllocGlobal, call: &Call) -> bool {
     let refused = Reply::Refused(Refusal::Loop);
     let line = b"# 1 a begin ; reweight osd.2 1.00000 ; commit = refused Loop 40\n";
     has_line(rt, call, (1, "a"), refused, line)
 }
 
-/// Tests the line of an empty batch that has the reply of a batch of many edits.
+/// Whether the right line is written for an empty batch whose reply is the reply to a batch of many
+/// edits.
 fn is_empty_batch(rt: &impl AllocGlobal, call: &Call) -> bool {
     let done = Reply::Dones(Dones {
         edits: 65536,
@@ -85,7 +87,8 @@ fn copies_of_calls_are_lines(rt: HostRuntime) {
     assert!(rt; are_lines);
 }
 
-/// A weight of 21823 units is 0.332993 with six digits after the point.
+/// A weight of 21823 units is 0.332993 with six digits after the point. In a command, it has five
+/// digits.
 #[test]
 fn an_edit_is_written_as_a_command(rt: HostRuntime) {
     let edit = reweight(&rt, b"osd.0", 21823);

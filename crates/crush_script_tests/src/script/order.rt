@@ -37,8 +37,8 @@ fn a_device_that_no_bucket_holds_stands_by_its_id(rt: HostRuntime) {
     assert!(rt; are_in_order(&rt, UNPLACED, &[0, 1, 2, 9], &[-2, -3, -1]));
 }
 
-/// The map of `examples/maps/conf-3.job`: a host that comes later has an id that is farther below 0
-/// than the id of its rack.
+/// The map of `examples/maps/conf-3.job`. In this map, the host node0001 has an id that is farther
+/// below 0 than the id of its rack.
 const NESTED: &[u8] = b"\
     # begin crush map\n\
     tunable choose_local_tries 0\n\

@@ -1,5 +1,5 @@
-//! Reads each prefix of the example map's text. A simple rule about the text's lines says which
-//! prefixes are the text of a map.
+//! Tests how each prefix of the example map's text is read. A simple rule about the lines of a
+//! prefix says whether the prefix is the text of a map.
 
 use crate::script::{put_behind, text_of};
 use crush_map::CrushMap;
@@ -7,8 +7,8 @@ use crush_text::{TextFault, TextFaultKind, read_map};
 use std::alloc::Global;
 use std::process::Abort;
 
-/// The text has one line of three words for each tunable, device and type, and each bucket and rule
-/// ends with a line that is just a brace.
+/// The text of the example map. Each tunable, device and type has a line of three words. Each
+/// bucket and each rule ends with a line that is just a brace.
 const EXAMPLE_MAP: &[u8] = b"\
     # begin crush map\n\
     tunable choose_total_tries 50\n\
@@ -94,9 +94,9 @@ fn count_words(line: &[u8]) -> u32 {
     count
 }
 
-/// Whether the prefix is the text of a map. It may be one even if the last word of a tunable, a
-/// device or a type is cut short, because the rest of this word is still a number, or a name that
-/// isn't used elsewhere.
+/// Whether the prefix is the text of a map. This can be the case even if the prefix ends inside of
+/// the last word of a tunable, a device or a type. The beginning of this word is then still a
+/// number, or a name that isn't used elsewhere.
 fn is_whole(prefix: &[u8]) -> bool {
     let line = last_line(prefix);
     let is_between = line.is_empty() || line.starts_with(b"#") || line == b"}".as_slice();
@@ -141,8 +141,10 @@ fn has_the_statements(
     statements(rt, text.as_slice()) == statements(rt, prefix)
 }
 
-/// Whether reading the prefix has the expected result. `is_cut` says whether the prefix ends within
-/// a word.
+/// Whether reading the prefix has the expected result. If the prefix is the text of a map, the
+/// result is a map with the statements of the prefix. Otherwise, the result is a fault at the end
+/// of the prefix, or at the prefix's last word if this word is cut. `is_cut` says whether the
+/// prefix ends within a word.
 fn is_due(rt: &(impl Abort + AllocGlobal), prefix: &[u8], is_cut: bool) -> bool {
     match read_map(rt.alloc(), prefix) {
         Ok((map, adjusted)) => {

@@ -9,7 +9,7 @@ use crush_since::write_changes;
 use std::alloc::Global;
 use std::process::Abort;
 
-/// The map after `add osd.3 1 host=h3 rack=r1 root=default`.
+/// The example map after `add osd.3 1 host=h3 rack=r1 root=default`.
 const GROWN: &[u8] = b"\
     tunable chooseleaf_stable 1\n\
     device 0 osd.0\n\
@@ -26,7 +26,7 @@ const GROWN: &[u8] = b"\
     rack r1 { id -5 alg straw2 hash 0 item h3 weight 1.0 }\n\
     root default { id -1 alg straw2 hash 0 item h1 weight 2.0 item h2 weight 0.5 item r1 weight 1.0 }\n";
 
-/// The map after `swap-bucket h1 h2`.
+/// The example map after `swap-bucket h1 h2`.
 const SWAPPED: &[u8] = b"\
     tunable chooseleaf_stable 1\n\
     device 0 osd.0\n\
@@ -40,7 +40,7 @@ const SWAPPED: &[u8] = b"\
     host h1 { id -3 alg straw2 hash 0 item osd.0 weight 1.0 item osd.1 weight 1.0 }\n\
     root default { id -1 alg straw2 hash 0 item h2 weight 0.5 item h1 weight 2.0 }\n";
 
-/// The map after `rm osd.0`, `rm osd.1` and `rm h1`.
+/// The example map after `rm osd.0`, `rm osd.1` and `rm h1`.
 pub(super) const SHRUNK: &[u8] = b"\
     tunable chooseleaf_stable 1\n\
     device 2 osd.2\n\
@@ -63,7 +63,7 @@ pub(super) const ROW: &[u8] = b"\
     row row00 { id -2 alg straw2 hash 0 item rack000 weight 1.0 item rack001 weight 0.0 }\n\
     root default { id -1 alg straw2 hash 0 item row00 weight 1.0 }\n";
 
-/// The empty rack of the map `ROW` is removed, and a new host has the rack's id.
+/// The map `ROW` after its empty rack was removed. A new host has the id that this rack had.
 pub(super) const ROW_AGAIN: &[u8] = b"\
     device 0 osd.0\n\
     device 1 osd.1\n\

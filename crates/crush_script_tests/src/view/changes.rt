@@ -7,7 +7,7 @@ use crush_since::{bucket_named, write_since};
 use std::alloc::Global;
 use std::process::Abort;
 
-/// The map after `create-or-move osd.0 5.0 host=h2`.
+/// The example map after `create-or-move osd.0 5.0 host=h2`.
 pub(super) const MOVED: &[u8] = b"\
     tunable chooseleaf_stable 1\n\
     device 0 osd.0\n\

@@ -1,4 +1,5 @@
-//! Tests the trees that show only one class, and the weights of the class that their lines show.
+//! Tests the trees that show only the devices of one class. In the lines of these trees, the weight
+//! of an item is the weight of its devices of this class.
 
 use crate::maps::map_of;
 use crush_map::CrushMap;
@@ -126,7 +127,7 @@ fn each_item_weighs_what_its_devices_of_the_class_weigh(rt: HostRuntime) {
     assert!(rt; are);
 }
 
-/// The map of `CLASSED` after `move osd.0 host=h3`.
+/// The map `CLASSED` after `move osd.0 host=h3`.
 const MOVED: &[u8] = b"\
     device 0 osd.0 class ssd\n\
     device 1 osd.1 class hdd\n\
@@ -184,7 +185,7 @@ fn changes_below_an_item_without_the_class_are_headings_alone(rt: HostRuntime) {
     assert!(rt; are_changes(&rt, (CLASSED, MOVED), "hdd", "osd.0", tree));
 }
 
-/// A host and its only device, which has the class `ssd`.
+/// A map in which the host h1 is in the rack r1. Its only device has the class `ssd`.
 const IN_R1: &[u8] = b"\
     device 0 osd.0 class ssd\n\
     type 0 osd\n\
@@ -196,7 +197,7 @@ const IN_R1: &[u8] = b"\
     rack r2 { id -3 alg straw2 hash 0 }\n\
     root default { id -1 alg straw2 hash 0 item r1 weight 1.0 item r2 weight 0.0 }\n";
 
-/// The map of `IN_R1` after the host has moved to the other rack, and its device has another class.
+/// The map `IN_R1` after the host has moved to the rack r2 and its device has got the class `hdd`.
 const IN_R2: &[u8] = b"\
     device 0 osd.0 class hdd\n\
     type 0 osd\n\
@@ -208,8 +209,9 @@ const IN_R2: &[u8] = b"\
     rack r2 { id -3 alg straw2 hash 0 item h1 weight 1.0 }\n\
     root default { id -1 alg straw2 hash 0 item r1 weight 0.0 item r2 weight 1.0 }\n";
 
-/// Neither map has a device of the class below the rack r2, but the rack has a row: its host had
-/// such a device.
+/// Tests the tree of changes for the class ssd. In both maps, no device below the rack r2 has this
+/// class. But the tree has a row for r2, because the host h1 is now in r2, and its device had this
+/// class before.
 #[test]
 fn a_row_has_the_rows_of_all_buckets_above_it(rt: HostRuntime) {
     let tree = b"\

@@ -5,7 +5,7 @@ use crate::maps::map_of;
 use crush_compare::{Comparison, Devices, Difference, Report};
 use std::alloc::Global;
 
-/// The example map in which h4 and osd.3 replace h2 and osd.2, and osd.1 has a class.
+/// The example map in which h4 replaces h2, osd.3 replaces osd.2, and osd.1 has a class.
 const OTHER_MAP: &[u8] = b"\
     tunable chooseleaf_stable 1\n\
     device 0 osd.0\n\
@@ -19,8 +19,9 @@ const OTHER_MAP: &[u8] = b"\
     host h4 { id -4 alg straw2 hash 0 item osd.3 weight 0.5 }\n\
     root default { id -1 alg straw2 hash 0 item h1 weight 2.0 item h4 weight 0.5 }\n";
 
-/// The example map in another cluster: the ids differ, the type of hosts has another number, and
-/// the hosts are in the reverse order. osd.3 replaces osd.2, and osd.1 weighs twice as much.
+/// The example map in another cluster: except for osd.1, the items have other ids. The type of
+/// hosts has another number, and the hosts are in the reverse order. osd.3 replaces osd.2, and
+/// osd.1 weighs twice as much.
 const OTHER_CLUSTER: &[u8] = b"\
     tunable chooseleaf_stable 1\n\
     device 1 osd.1\n\
@@ -34,8 +35,8 @@ const OTHER_CLUSTER: &[u8] = b"\
     host h1 { id -8 alg straw2 hash 0 item osd.0 weight 1.0 item osd.1 weight 2.0 }\n\
     root default { id -7 alg straw2 hash 0 item h2 weight 0.5 item h1 weight 3.0 }\n";
 
-/// The example map in another cluster, where h2 is a rack and holds osd.1. osd.2 weighs one unit
-/// (1/65536) less than 0.5.
+/// The example map in another cluster: h1 and h2 have exchanged their ids, h2 is a rack, and osd.1
+/// is in h2. The device osd.2 weighs one unit (1/65536) less than 0.5.
 const MOVED_MAP: &[u8] = b"\
     tunable chooseleaf_stable 1\n\
     device 0 osd.0\n\
@@ -70,8 +71,8 @@ fn word_of(difference: Option<Difference>) -> &'static [u8] {
     }
 }
 
-/// Whether the pairs are those of `rows`. Each row has the name of a pair's item and the words that
-/// say how the two maps differ in it.
+/// Whether the pairs of `both` are as `rows` says. Each row has the name of a pair's item, and the
+/// word for how the two maps differ in this item.
 fn are_pairs(
     both: &Comparison<'_, Global, Global>,
     report: Report,

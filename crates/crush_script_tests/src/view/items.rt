@@ -17,8 +17,8 @@ fn items_of<'a>(rt: &(impl Abort + AllocGlobal), map: &'a CrushMap<Global>) -> I
     Items::of(rt.alloc(), map).expect(rt, "no memory")
 }
 
-/// The name of an item, its depth, and the name of its parent. The parent's name is empty if the
-/// item has no parent.
+/// The name of an item, its depth in the tree from 0, and the name of its parent. The parent's name
+/// is empty if the item has no parent.
 type Row<'a> = (&'a [u8], u32, &'a [u8]);
 
 fn is_row(item: &Item<'_, Global>, row: &Row<'_>) -> bool {

@@ -10,10 +10,11 @@ use std::process::Abort;
 
 const BY_NAMES: Identity = Identity::Names(Devices::ByName);
 
-/// In the second map, the root `main` has the id that the root `default` had, and `default` is
-/// empty. If buckets are matched by their ids, the rule `gone` takes the bucket that has the host.
-/// If they are matched by their names, it takes a bucket without weight. The rule `kept` takes
-/// `main` in both maps.
+/// The first of two maps. In the second map, `AFTER`, the root `main` has the id that the root
+/// `default` has in this map, and `default` is empty. If buckets are matched by their ids, the
+/// bucket that the rule `gone` takes still has the host in the second map. If buckets are matched
+/// by their names, this bucket has no weight in the second map. The rule `kept` takes `main` in
+/// both maps.
 const BEFORE: &[u8] = b"\
     device 0 osd.0 class hdd\n\
     device 1 osd.1 class ssd\n\
@@ -38,7 +39,8 @@ const AFTER: &[u8] = b"\
     rule fast { id 2 type replicated step take default class ssd step emit }\n\
     rule made { id 0 type replicated step take default step emit }\n";
 
-/// Appends one word for the kind of the difference, and the names in it.
+/// Appends to `words` a word for the kind of the difference, and then each name that the difference
+/// has.
 fn push_word(rt: &(impl Abort + AllocGlobal), change: &RuleChange<'_>, words: &mut Vec<u8>) {
     match change {
         RuleChange::New(name) => push(rt, &[b"new ", name.as_bytes()], words),
