@@ -68,7 +68,8 @@ const MADE: &[u8] = b"\
     \"rules\":[],\"total\":[0,98304],\"tunables\":false,\"types\":true}}\n";
 
 /// The first of two maps with the same items. In the second map, `CLASSES_AFTER`, the bucket has
-/// another algorithm and another class id, and the device has another class.
+/// another algorithm and one more class id, and the device has another class. Except for the rule
+/// `kept`, the rules differ.
 const CLASSES_BEFORE: &[u8] = b"\
     device 0 osd.0 class hdd\n\
     type 1 root\n\
