@@ -1,6 +1,11 @@
 //! Tests what operators read from an editor, and which history the editor has when it is closed.
-//! Weights are in units of 1/65536. The devices weigh 1, 1 and 0.5, which are 163840 units in
-//! total, and each call sets the weight of one of the first two devices to 2.
+//! With an *editor*, up to 16 operators edit one map at the same time. An operator uses the editor
+//! through its *seat*. A *reading* has the number of calls that have changed the map, and the map's
+//! total weight. A *note* says which history a seat has seen, and another seat can learn this from
+//! the note.
+//!
+//! Weights are in units of 1/65536. The devices of the map weigh 1, 1 and 0.5, which are 163840
+//! units in total. Each call sets the weight of one of the first two devices to 2.
 
 ghost use Rattle.std.specs.Prelude.{◌≡◌, ◌<◌, ◌≤◌};
 ghost use mathlib.Core.List.{IsPrefix};
@@ -181,11 +186,12 @@ fn shown<N: Desk>(rt: &(impl Abort + AllocGlobal + Wait), started: Started)
     );
 }
 
-/// Passes a note of the first seat to the second one, and returns a note of the second seat.
+/// Passes a note of the seat `from` to the seat `to`, and returns a note of the seat `to`.
 ///
-/// A reading always loads the newest numbers, with or without a note. So no output of a test shows
-/// what a seat has learned, but this contract does: the returned note has everything that the first
-/// seat had seen. The prover would refuse this function if `learn` promised nothing about the note.
+/// A reading always has the newest numbers, even if its seat has learned no note. So no output of a
+/// test shows what a seat has learned from a note. But the contract of this function shows it: the
+/// returned note has everything that the seat `from` had seen. The prover would reject this
+/// contract if the contract of `learn` promised nothing about the note.
 fn pass_note<N: Desk>(editor: &Editor<N>, from: &mut Seat<N>, to: &mut Seat<N>) -> Note<N>
     ensures { IsPrefix from.old.seen result }
 {
@@ -215,7 +221,7 @@ fn a_note_between_two<N: Desk>(rt: &(impl Abort + AllocGlobal + Wait), started: 
     assert_eq!(rt; last.operator(), 1);
 }
 
-/// Does what [`pass_note`] does, without the editor's lock.
+/// Does the same as [`pass_note`], but with a reader that doesn't use the editor's lock.
 fn pass_note_by_reader<N: Desk>(
     reader: &LockFreeReader<N>,
     from: &mut Seat<N>,

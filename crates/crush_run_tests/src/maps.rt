@@ -1,4 +1,4 @@
-//! Has the map with which the tests of runs and editors start.
+//! Has the text of the map with which the tests of runs and editors begin.
 
 pub const PLAIN: &[u8] = b"\
     # begin crush map\n\

@@ -1,6 +1,7 @@
-//! Tests `crush_options`, `crush_input` and `crush_run`. The tests call each public function. They
-//! also have the cases that the files of `tests/runs/` can't show, for instance streams that fail,
-//! gates, and files that no file system can have.
+//! Tests `crush_options`, `crush_input` and `crush_run`. The tests call each public function of
+//! these crates. The tests also have the cases that the files of `tests/runs/` can't show. Examples
+//! are streams that fail, files that no file system can have, and gates. A *gate* is code that runs
+//! before and after each call of an operator.
 
 use crate::maps::PLAIN;
 use crush_input::{Words, report};
@@ -92,8 +93,8 @@ fn writes(
         && out.ends_with(lines)
 }
 
-/// If there is only one operator, a run in which operators work at once has the same result as a
-/// run in which they work in turn.
+/// If there is only one operator, a run in which the operators work at the same time has the same
+/// result as a run in which they work one after the other.
 #[test]
 fn runs_one_operator_at_once(rt: HostRuntime) {
     let job = joined(&rt, PLAIN, b"%operator a\nreweight osd.2 1.0\n");

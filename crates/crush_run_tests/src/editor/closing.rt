@@ -1,4 +1,4 @@
-//! Tests what an editor returns when it is closed.
+//! Tests which history and which map an editor returns when it is closed.
 
 ghost use Rattle.std.specs.Prelude.{◌≡◌};
 ghost use Rattle.crush_run_tests.specs.Seats.{AreAll};
@@ -31,7 +31,8 @@ const THREE: &[u8] = b"\
     rm h2\n\
     commit\n";
 
-/// The history if each operator makes its first call before any operator makes its second call.
+/// The history and the map's text after the scripts of `THREE`, if each operator makes its first
+/// call before any operator makes its second call.
 const CLOSED: &[u8] = b"\
     # 1 a reweight osd.0 2.00000 = done changed 1 made 0\n\
     # 2 b reweight osd.1 2.00000 = done changed 1 made 0\n\

@@ -1,5 +1,6 @@
-//! Tests a history that has as many entries as a history may have, and the call after the last
-//! entry.
+//! Tests a history that has as many entries as a history may have, and one more call after the last
+//! of these entries. One test uses an editor, and the other test uses a book without an editor.
+//! (The *book* is the map with its history.)
 
 ghost use Rattle.std.specs.Prelude.{◌≡◌};
 ghost use Rattle.crush_run_tests.specs.Seats.{AreAll};

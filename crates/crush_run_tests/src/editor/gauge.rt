@@ -1,4 +1,6 @@
-//! Tests gauges for histories whose entries are pairs: a number of changes and a weight.
+//! Tests gauges for histories whose entries are pairs: a number of changes and a weight. A *gauge*
+//! is a word of memory that has these two numbers for the current history, and that threads read
+//! without a lock.
 
 ghost use Rattle.std.specs.Prelude.{◌≡◌, ◌≤◌, ◌<◌, [], ◌∷◌};
 ghost use Rattle.crush_gauge.specs.declared.view.View.TheVariants.{Book as BookSees, Reader};
@@ -8,8 +10,10 @@ ghost use Rattle.crush_gauge.specs.Held.{held};
 use super::assert_reads;
 use crush_gauge::{Gauge, Law};
 
-/// The law by which every history is legal. The last entry of a history has its number of changes
-/// and its weight. A history without entries has no changes and the weight of the opening.
+/// The law of these gauges: it says which histories are legal, and which two numbers a gauge has
+/// after each history. Every history is legal. A history with entries has the number of changes and
+/// the weight of its last entry. A history without entries has no changes, and its weight is the
+/// opening, which is a number here.
 struct Pairs;
 
 impl Law<u64, (u64, u64)> for Pairs {

@@ -1,4 +1,5 @@
-//! Tests guarded batches of one seat while another seat makes calls.
+//! Tests guarded batches of one seat, while another seat submits a call. A guarded batch names a
+//! number of changes, and is applied only if exactly this many calls have changed the map.
 
 ghost use Rattle.std.specs.Prelude.{◌≡◌};
 

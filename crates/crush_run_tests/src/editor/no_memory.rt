@@ -1,5 +1,6 @@
-//! Tests calls that allocate no memory. Each pair of tests makes the same call once and many times,
-//! and `tests/refused_memory.py` compares the requests for memory of the two tests.
+//! Tests functions that allocate no memory. The tests come in pairs. One test of a pair calls the
+//! functions once, and the other test calls the same functions many times.
+//! `tests/refused_memory.py` requires that both tests request memory equally often.
 
 ghost use Rattle.std.specs.Prelude.{◌≡◌};
 ghost use Rattle.crush_run_tests.specs.Seats.{AreAll};
@@ -106,7 +107,7 @@ fn an_editor_is_read_often(rt: HostRuntime) {
     read_editor::<Brand>(&rt, started(&rt, 2), OFTEN);
 }
 
-/// Opens an editor and makes one call. Then closes the editor if `closes` is true, and otherwise
+/// Opens an editor and submits one call. Then closes the editor if `closes` is true, and otherwise
 /// drops it.
 fn end_editor<N: Desk>(rt: &(impl Abort + AllocGlobal + Wait), started: Started, closes: bool)
     requires gauge { started.table ≡ N.gauge }
@@ -129,8 +130,8 @@ fn is_closed<N: Desk>(editor: Editor<N>, seats: Vec<Seat<N>>) -> bool
     editor.close(seats).history.len() == 1
 }
 
-/// Opens `EDITORS` editors, and closes the first `times` of them. So the number of editors doesn't
-/// depend on `times`.
+/// Opens `EDITORS` editors one after the other. Closes the first `times` of them, and drops the
+/// others. So the number of opened editors doesn't depend on `times`.
 fn close_editors(rt: &(impl Abort + AllocGlobal + Wait), times: u32) {
     for number in 0..EDITORS {
         let started = started(rt, 2);

@@ -1,5 +1,5 @@
-//! Tests what `{}` and `{:?}` print of an editor's faults and values, and which error `?` makes of a
-//! fault.
+//! Tests what `{}` and `{:?}` print of an editor's faults and values, and what is printed of the
+//! error into which `?` converts a fault.
 
 use super::{read_map, started, weight_two};
 use crate::maps::PLAIN;

@@ -1,5 +1,6 @@
-//! Tests a book and an editor that don't keep the opening map. Each call is moved into its entry of
-//! the history.
+//! Tests a book and an editor that don't keep a copy of the map before the first call. (The book is
+//! the map with its history.) The tests move each call into its entry of the history, instead of
+//! copying the call.
 
 ghost use Rattle.std.specs.Prelude.{◌≡◌};
 

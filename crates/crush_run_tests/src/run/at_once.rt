@@ -1,5 +1,6 @@
-//! Tests runs in which operators work at once. The tests use gates, which are called before and
-//! after each call, to show that threads work at the same time. No contract promises this.
+//! Tests runs in which operators work at the same time, each in its own thread. The tests use
+//! gates, whose methods are called before and after each call of an operator. The gates show that
+//! the threads really work at the same time, which no contract promises.
 
 use super::{AT_ONCE, joined, run_map, summary};
 use crate::maps::PLAIN;
@@ -12,7 +13,7 @@ use std::sync::atomic::{AtomicU64, Ordering};
 use std::thread;
 use std::time::{Clock, Duration};
 
-/// The number of times that a gate sleeps for a millisecond before it gives up.
+/// How many times a gate sleeps for a millisecond before it gives up.
 const MOST_NAPS: u64 = 10_000;
 
 pub(super) fn reaches(clock: &impl Clock, count: &AtomicU64, goal: u64) -> bool {
@@ -25,7 +26,8 @@ pub(super) fn reaches(clock: &impl Clock, count: &AtomicU64, goal: u64) -> bool 
     false
 }
 
-/// A gate at which the first two calls wait for each other.
+/// A gate that lets the first two calls of a run wait for each other. `missed` is 1 if a call has
+/// waited in vain.
 #[derive(Drop)]
 struct Meeting<'a, C> {
     clock: &'a C,
@@ -44,7 +46,8 @@ impl<C: Clock> Gate for Meeting<'_, C> {
     fn after<R: Wait>(&self, _rt: &R, _operator: usize, _number: usize) {}
 }
 
-/// A gate that lets two operators make their calls alternately. The first operator begins.
+/// A gate that lets two operators make their calls alternately. The first operator begins. `missed`
+/// is 1 if a call has waited in vain for its turn.
 #[derive(Drop)]
 pub(super) struct ByTurns<'a, C> {
     clock: &'a C,
@@ -103,7 +106,8 @@ fn two_operators_are_at_work_at_the_same_time(rt: HostRuntime) {
     assert!(&rt; out.ends_with(FIRST_HAS_IT) || out.ends_with(SECOND_HAS_IT));
 }
 
-/// Both scripts insert the device `osd.7`, so exactly one of the two calls changes the map.
+/// Each of the two scripts inserts the device `osd.7`, so exactly one of the two calls changes the
+/// map.
 #[test]
 fn scripts_run_at_once_on_a_map(rt: HostRuntime) {
     let bytes = joined(&rt, PLAIN, ONE_DEVICE);

@@ -1,4 +1,4 @@
-//! Tests the words of command lines, and the options that they mean.
+//! Tests which options command lines select.
 
 use crush_options::{MapForm, Options, OutputSpec, options};
 
@@ -42,8 +42,9 @@ fn flags_and_a_file_are_read(rt: HostRuntime) {
     assert!(rt; parses_to(&rt, words, false, false, Some("--in-turn")));
 }
 
-/// Whether a command line with the verb `apply` means the options for which this verb is a short
-/// form.
+/// Whether a command line with the verb `apply` selects the options for which this verb is a short
+/// form. `is_dry` says whether the command line has the option `--dry-run`, and `scripts` is the
+/// number of its script files. The map's file must have the name `m`.
 fn applies(rt: &impl AllocGlobal, words: &[&str], is_dry: bool, scripts: usize) -> bool {
     let read = options(rt.alloc(), words);
     let is_right = match &read {

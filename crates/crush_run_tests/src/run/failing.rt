@@ -1,5 +1,5 @@
-//! Tests readers and writers that fail, and readers that return only blanks, some of them without
-//! an end.
+//! Tests runs whose reader or writer fails, and runs whose reader returns more blanks than a job
+//! may have bytes.
 
 use super::{MODE, REWEIGHED, is_listed, joined, run_map};
 use crate::maps::PLAIN;
@@ -52,8 +52,9 @@ impl Read for FailingReader<'_> {
     }
 }
 
-/// A writer that accepts at most 7 bytes in each write. When there is no room left, a write fails
-/// or accepts no bytes. If the writer fails only once, there is room again after that.
+/// A writer that accepts at most 7 bytes in each write, and `room` bytes in total. When there is no
+/// room left, a write fails or accepts no bytes. If the writer fails only once, there is room again
+/// after this failure.
 #[derive(Drop)]
 struct FailingWriter {
     taken: Vec<u8>,
@@ -134,8 +135,8 @@ fn stops_at_a_failed_read(rt: HostRuntime) {
     }
 }
 
-/// `run` is a job and its output. Returns whether the run fails with a write fault, and the writer
-/// has received exactly the first `room` bytes of the output.
+/// Whether the run fails with a write fault after the writer has received exactly the first `room`
+/// bytes of the output. `run` has the bytes of a job, and the whole output of this job.
 fn leaves_a_prefix(
     rt: &(impl AllocGlobal + RandomSource + Threads + Wait + Sync),
     run: (&[u8], &[u8]),

@@ -1,6 +1,7 @@
-//! Tests that a gate is called after each call before which it was called, even if the call fails.
-//! `tests/refused_memory.py` refuses the requests for memory of these tests one by one. The tests
-//! make no such requests outside a run.
+//! Tests that a gate's method `after` is called as often as its method `before`, even if calls fail
+//! because memory runs out. (A gate is code that runs before and after each call of an operator.)
+//! `tests/refused_memory.py` refuses the requests for memory of these tests one by one. Outside of
+//! a run, the tests request no memory.
 
 use super::{AT_ONCE, MODE, run_map};
 use crush_options::Mode;
@@ -32,8 +33,8 @@ impl Gate for Counts {
     }
 }
 
-/// A job with two operators. Each of them has a call for which the map allocates memory, and a call
-/// that is refused.
+/// A job with two operators. Each operator has a call for which the map allocates memory, and a
+/// call that the run refuses.
 const JOB: &[u8] =
     b"device 0 osd.0\ntype 0 osd\ntype 1 host\nhost h1 { id -1 alg straw2 item osd.0 }\nhost h2 { id -2 alg straw2 }\n%operator a\nmove osd.0 host=h2\nrm x\n%operator b\nrm x\nadd osd.7 1 host=h1\n";
 

@@ -1,5 +1,7 @@
-//! Tests that a gate sees each call of a run in turn, and that a gate can decide which of two
-//! guarded batches is applied first.
+//! Tests that a gate is called before and after each call if the operators work one after the
+//! other. Also tests that a gate can decide which of two guarded batches is applied first. A
+//! guarded batch names a number of changes, and is applied only if exactly this many calls have
+//! changed the map.
 
 use super::at_once::reaches;
 use super::{AT_ONCE, MODE, joined, run_map, summary};
@@ -24,7 +26,8 @@ impl Watch {
     }
 }
 
-/// Returns the digit that the gate notes before a call. After the call, it notes the next digit.
+/// Returns the digit that the gate notes before this call. After the call, the gate notes the next
+/// digit. In the test, `operator` and `number` are 0 or 1, so the digits are from 1 to 8.
 fn digit(operator: usize, number: usize) -> usize {
     (operator % 2) * 4 + (number % 2) * 2 + 1
 }
@@ -75,8 +78,8 @@ impl<C: Clock> Gate for First<'_, C> {
     }
 }
 
-/// Two operators, each with a batch that puts the same device into another host if nothing has
-/// changed yet.
+/// The scripts of two operators. Each script has one guarded batch, which inserts the device
+/// `osd.7` if no call has changed the map yet. The two batches name different hosts.
 const TWO_GUARDS: &[u8] =
     b"%operator a\nbegin at 0\nadd osd.7 1 host=h1\ncommit\n%operator b\nbegin at 0\nadd osd.7 1 host=h2\ncommit\n";
 

@@ -1,10 +1,11 @@
-//! Tests operators that work at once on a map with the largest number of buckets.
+//! Tests operators that work at the same time on a map with the largest number of buckets.
 
 use super::at_once::ByTurns;
 use super::{AT_ONCE, joined, run_map, summary};
 use std::process::Abort;
 
-/// The largest number of buckets that a map can have.
+/// The largest number of buckets that a map can have. In the map of this test, each of these
+/// buckets is inside of the next one.
 const DEPTH: u32 = 4096;
 
 fn put_behind(rt: &impl Abort, text: &mut Vec<u8>, bytes: &[u8]) {
@@ -42,8 +43,8 @@ fn chain(rt: &(impl Abort + AllocGlobal), weight: &str) -> Vec<u8> {
     text
 }
 
-/// Two scripts that edit the innermost device and bucket. At the end these are where they were
-/// before.
+/// Two scripts that edit the innermost bucket `b1` and its device. At the end, both are where they
+/// were before, and the device has the weight 2.
 const TWO_SCRIPTS: &[u8] =
     b"%operator a\nreweight osd.0 3.0\nmove b1 host=b4096\n%operator b\nbegin\nreweight-subtree b4096 1.0\nreweight osd.0 2.0\ncommit\nmove b1 host=b2\n";
 

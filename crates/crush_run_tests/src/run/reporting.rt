@@ -1,5 +1,5 @@
-//! Tests what is written to standard error, and what is written to standard output if help is
-//! requested.
+//! Tests what a run writes to standard error. Also tests what the program writes to standard output
+//! and to standard error if a command line starts no run, for example because it requests help.
 
 use crate::run::is_listed;
 use crush_input::{Aborted, VerbMap, VerbMapFault, VerbMapRefusal, Words, report, report_options};

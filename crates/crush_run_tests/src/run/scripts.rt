@@ -1,5 +1,6 @@
-//! Tests scripts in files that no file system can have: a file whose name ends after its folder, a
-//! file with a name of 256 bytes, and files that count the bytes that are read.
+//! Tests scripts in files that no file system can have: a file whose name ends with the `/` after
+//! its folder, a file with a name of 256 bytes, and files that count the bytes that are read from
+//! them.
 
 use super::{joined, summary};
 use crate::maps::PLAIN;
@@ -36,7 +37,7 @@ impl<'a> Opens for Shelf<'a> {
 }
 
 /// Runs the script in the file `name` on the map in the file `m`. Returns whether the run has this
-/// outcome and this output.
+/// outcome and this output, and no notes.
 fn ends_so(
     rt: &(impl Abort + AllocGlobal + RandomSource + Threads + Wait + Sync),
     name: &str,
@@ -63,14 +64,15 @@ const BOB: &[u8] = b"%operator bob\nreweight osd.2 0.5\n";
 
 const BOB_LINE: &[u8] = b"# 1 bob reweight osd.2 0.50000 = done changed 0 made 0\n";
 
-/// Names of files. Their last parts can't be names of operators, which have 1 to 255 bytes: the
-/// first has no bytes after its folder, and the second has 256 bytes.
+/// Names of files. The last part of such a name can't be the name of an operator, which has 1 to
+/// 255 bytes. The first name has no bytes after the folder, and the second name has 256 bytes.
 const NAMELESS: [&str; 2] = [
     "a/",
     "aaaaaaaaaaaaaaaaaaaaaaaaaaaaaaaaaaaaaaaaaaaaaaaaaaaaaaaaaaaaaaaaaaaaaaaaaaaaaaaaaaaaaaaaaaaaaaaaaaaaaaaaaaaaaaaaaaaaaaaaaaaaaaaaaaaaaaaaaaaaaaaaaaaaaaaaaaaaaaaaaaaaaaaaaaaaaaaaaaaaaaaaaaaaaaaaaaaaaaaaaaaaaaaaaaaaaaaaaaaaaaaaaaaaaaaaaaaaaaaaaaaaaaaaaaaaaaaa",
 ];
 
-/// The `%operator` line of the script is line 42 of the job, after the map.
+/// In the job, the `%operator` line of the script is line 42, because the text of the map has 41
+/// lines.
 #[test]
 fn a_file_whose_name_is_no_operators_is_a_bad_line(rt: HostRuntime) {
     let why = BadLine::Word(Misfit {
@@ -123,8 +125,8 @@ impl<'a> Opens for Counted<'a> {
     }
 }
 
-/// The first file is read as a whole. From the second file, the run reads as many bytes as the job
-/// may still have, and one byte more.
+/// The first file is read as a whole. The run reads from the second file until it has read
+/// 16,777,217 bytes from both files together. This is one byte more than a job may have.
 #[test]
 fn the_files_of_a_job_are_read_up_to_one_limit(rt: HostRuntime) {
     let taken = AtomicU64::new(0);

@@ -1,5 +1,6 @@
-//! Tests the maps that verbs read: which texts are accepted, and what is written to standard error
-//! about the other texts.
+//! Tests the maps that verbs read. (A verb is the word `apply`, `diff`, `plan` or `tree` at the
+//! beginning of a command line.) The tests check which texts are accepted, and what is written to
+//! standard error about the other texts.
 
 use super::scripts::Shelf;
 use crate::maps::PLAIN;
@@ -17,7 +18,7 @@ const CUT_OLD: &[u8] =
 const CUT: &[u8] =
     b"crushedit: cut\n  the text doesn't end with `# end crush map`: was it cut? If it is whole, add that line\n";
 
-/// The text of a map that was cut within the line of its second device.
+/// The text of a map that was cut inside of the line of its second device.
 const BEGUN: &[u8] = b"# begin crush map\n\n# devices\ndevice 0 osd.0\ndevice 1 osd.";
 
 fn read(
