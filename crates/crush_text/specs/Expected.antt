@@ -33,7 +33,7 @@ keyword_of w =
     else (if bytes_eq w (codes "min_size") then keyword.MinSize
     else keyword.MaxSize))))))
 
--- the words with which an optional part that could still follow can begin; `Sizes` begins with `min_size` or, if this is left out, with `max_size`
+-- the words with which this optional part can begin. `Sizes` begins with `min_size` or, if the part has no `min_size`, with `max_size`
 abbrev pub words_of : Optional → List (List ℕ)
 words_of optional.Nothing = []
 words_of optional.Class = codes "class" ∷ []

@@ -6,7 +6,7 @@ use Rattle.crush_text.specs.declared.expected.Optional.{Optional}
 use Rattle.crush_text.specs.declared.expected.Optional.TheVariants.{Nothing}
 use Rattle.crush_text.specs.Role.{Role, El}
 
--- which lines may come next. `first`: a statement, before the first bucket or rule. `second`: a statement, after a bucket or a rule. `begun`: the line of a bucket's id. `numbered`: a class id of the bucket, or its algorithm. `filling`: an item of the bucket, or its end. The Bool says whether the bucket has an item already. `ruled`: a step of this rule, or the rule's end
+-- which lines may come next. `first`: a statement, before the first bucket or rule. `second`: a statement, after a bucket or a rule. `begun`: the line of a bucket's id. `numbered`: a class id of the bucket, or its algorithm. `filling`: an item of the bucket, or its end; here the Bool says whether the bucket has an item already. `ruled`: a step of this rule, or the rule's end
 pub data Mode : Type 0 where
   first : Mode
   second : Mode

@@ -26,7 +26,7 @@ use Rattle.crush_text.specs.Grammar.{with_step}
 use Rattle.crush_text.specs.Flow.{State, ◌>>=◌, placed, between, arrive, outcome, Reaches}
 use Rattle.crush_text.specs.Flaw.{IsOutOfMemory}
 
--- a word of the code as a word of the definitions
+-- a word of the code, as a word of the definitions
 abbrev pub word_of : PlacedWord → Word
 word_of w = record { place = w.place; text = w.text.now }
 
@@ -34,21 +34,21 @@ word_of w = record { place = w.place; text = w.text.now }
 abbrev pub and_rest : {A : Type 0} → Text → A → Result (A × Text) TextFault
 and_rest t a = Ok (a, t)
 
--- the first of these words, and the text after it. If there are no words, this is the fault at their end. e is what is expected at this place
+-- the first of these words, and the text after it. If there are no words, the result is the fault at their end. e is what is expected at this place
 abbrev pub next_of : Expected → List Word → Stop → Result (Word × Text) TextFault
 next_of e [] (ended place) = Err (record { kind = Ended; place = place; expected = e })
 next_of e [] (bad place) = Err (record { kind = BadWord; place = place; expected = e })
 next_of e (w ∷ ws) stop = and_rest (record { words = ws; stop = stop }) w
 
--- the next word of a text, and the text after it. If there is no next word, this is the fault at the end of the words. e is what is expected at this place
+-- the next word of a text, and the text after it. If there is no next word, the result is the fault at the end of the words. e is what is expected at this place
 unfoldable pub next_at : Expected → Text → Result (Word × Text) TextFault
 next_at e t = next_of e t.words t.stop
 
--- the value that the next word has in the role r, and the text after the word. If the word has a fault, this is the fault
+-- the value that the next word has in the role r, and the text after the word. If the word has a fault, the result is this fault. If there is no next word, the result is the fault at the end of the words
 unfoldable pub word_at : Draft → (r : Role) → Text → Result (El r × Text) TextFault
 word_at d r t = next_at (expected r) t >>= λ x. placed x.0.place (expected r) (word_for d r x.0.text) >>= and_rest x.1
 
--- the progress after a line of this form, and the text after the line. If the line has a fault, this is its first fault
+-- the progress after a line of this form, and the text after the line. If the line has a fault, the result is its first fault
 unfoldable pub line_at : Draft → Form → Text → Result (Progress × Text) TextFault
 line_at d (done p) t = Ok (p, t)
 line_at d (word r more) t = word_at d r t >>= λ x. line_at d (more x.0) x.1
@@ -59,7 +59,7 @@ line_at d (ahead k f g) t = if begins k (past t) then line_at d f t else line_at
 abbrev pub then_on : Result (Progress × Text) TextFault → Result Draft TextFault
 then_on r = r >>= λ x. outcome (between x.0) x.1
 
--- the weight that the word w spells for the item i, or the word's fault. This doesn't test whether sums of weights become too large
+-- the weight that the word w spells for the item i, or the word's fault. This definition doesn't test whether sums of weights become too large
 abbrev pub parsed_weight : Draft → ItemId → List ℕ → Result ℕ TextFaultKind
 parsed_weight d i w = unless (weight_tests d i w) (units w)
 
@@ -67,7 +67,7 @@ parsed_weight d i w = unless (weight_tests d i w) (units w)
 abbrev pub unless_heavy : Draft → Result Draft TextFaultKind
 unless_heavy e = if is_too_heavy e.table then Err SumTooLarge else Ok e
 
--- the form of an optional number after the key k, followed by the form that depends on this number
+-- the form of an optional part with the key k and a number, followed by the form `more`, which depends on the number. If the text has no such part, `more` gets `None` in place of the number
 abbrev pub number_behind : List ℕ → (Option ℕ → Form) → Form
 number_behind k more = optional k (word (key k) (λ _. word (number LARGEST_RULE_NUMBER) (λ n. more (Some n)))) (more None)
 
@@ -82,7 +82,7 @@ first_of_step (steps.Choose leaf) = chooses leaf
 first_of_step (steps.Set w) = sets w.text.now
 first_of_step steps.Emit = emits
 
--- the optional part that could follow after a step: the class, if the step takes a bucket without a class
+-- the optional part that could follow after a step. If the step takes a bucket without a class, this is `Class`. Otherwise no part could follow
 abbrev pub left_by_step : Step → Optional
 left_by_step (Take name None) = Class
 left_by_step s = Nothing

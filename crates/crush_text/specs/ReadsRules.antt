@@ -18,7 +18,7 @@ use Rattle.crush_text.specs.Flow.{State, between, arrive, Reaches}
 use Rattle.crush_text.specs.Room.{IsFreeRule}
 use Rattle.crush_text.specs.Reads.{line_at, number_behind, left_by_step, behind_step, GivesOn, LeadsOn, Fails, FailsIn, GivesLine}
 
--- the optional part that could follow in a rule. If the rule has a last step, this is the part that the step has left out. If it has no step, this is the part with the sizes of pools that the rule's head has left out
+-- the optional part that could follow in a rule. If the rule has a last step, this is the part that the step has left out. If the rule has no step, this is the part with the sizes of pools that the rule's head has left out. The arguments are the last step, `min_size` and `max_size`
 abbrev pub left_after : Option Step → Option ℕ → Option ℕ → Optional
 left_after (Some s) least most = left_by_step s
 left_after None least None = sizes_left least
@@ -28,7 +28,7 @@ left_after None least (Some most) = Nothing
 abbrev pub left_last : List Step → Option ℕ → Option ℕ → Optional
 left_last steps least most = left_after (slice_get steps (length steps - 1)) least most
 
--- the optional part that could follow after what was read of the rule r
+-- the optional part that could follow after the part of the rule r that was read
 abbrev pub left_by : Rule → Optional
 left_by r = left_last r.steps.items r.min_size r.max_size
 
@@ -38,7 +38,7 @@ StepGoes (Ok None) d r k rest g t = line_at d g t ≡ Ok (passing k (at (ruled r
 StepGoes (Ok (Some place)) d r k rest g t = (line_at d g t ≡ Ok (at second (add_rule d r), rest)) × Reaches place (arrive d t.words g) t.words
 StepGoes (Err f) d r k rest g t = FailsIn f d g t
 
--- what was read of the rule r can be added as a rule. Its words and numbers have the right form, no other rule has its name or its id, it has at most MOST_STEPS steps, and the steps name buckets and types that exist
+-- the part of the rule r that was read can be added as a rule. Its words and numbers have the right form, no other rule has its name or its id, it has at most MOST_STEPS steps, and each bucket or type that a step names exists
 pub record IsRightSoFar (b : BuilderData) (r : Rule) : Type 0 where
   pub form : IsRuleForm r
   pub free : (d : Draft) → IsDraft b d → IsFreeRule d r

@@ -26,7 +26,7 @@ use Rattle.crush_text.specs.ReadsLines.{IsIdle, Ending, ending}
 abbrev pub mode_behind : Bool → Mode
 mode_behind late = if late then second else first
 
--- the ending of a statement. The reader has it as the `Before` for the next statement
+-- the ending of a statement. The reader stores this ending in the `Before` for the next statement
 abbrev pub behind : Before → Ending
 behind b = (mode_behind b.late, b.or)
 

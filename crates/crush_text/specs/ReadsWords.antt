@@ -17,13 +17,13 @@ use Rattle.crush_text.specs.Role.{Role, El, value}
 use Rattle.crush_text.specs.Room.{IsFreeWord, IsInRange, IsFreeValue}
 use Rattle.crush_text.specs.Reads.{word_of, next_at, word_at, Gives}
 
--- the next word was read, where e is expected. A word that is returned is a brace or a name, and the text after it has fewer words
+-- the next word was read, at a place where e is expected. A word that is returned is a brace or a name, and the text after it has fewer words than the text before it
 pub record TakesWord (e : Expected) (old new : Text) (x : Result PlacedWord TextFault) : Type 0 where
   pub gives : Gives (λ w. (word_of w, new)) x (next_at e old)
   pub formed : IfOk x (λ w. (is_brace_word w.text.now || is_name w.text.now) ≡ true)
   pub shorter : OnOk x (length new.words < length old.words)
 
--- a property of every draft. It is used for roles in which the result doesn't depend on the draft
+-- a property that every draft has. Contracts use it for roles in which the result doesn't depend on the draft
 abbrev pub AnyDraft : Draft → Type 0
 AnyDraft d = Unit {0}
 

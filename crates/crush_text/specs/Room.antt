@@ -40,7 +40,7 @@ IsInRange (number most) n = n ≤ most
 IsInRange rule_id n = n ≤ LARGEST_RULE_NUMBER
 IsInRange r v = Unit {0}
 
--- the value may be used in this role. A number or an id must be new. If a class id follows, the bucket must have room for one more class id
+-- the value may be used in this role. A number or an id must be new. In the role `id_or_alg`, the value says whether a class id follows. If so, the bucket must have room for one more class id
 abbrev pub IsFreeValue : Draft → (r : Role) → El r → Type 0
 IsFreeValue d type_number n = has_kind_number d.setting n ≡ false
 IsFreeValue d device_id n = is_there d.table (Device n) ≡ false
@@ -53,13 +53,13 @@ IsFreeValue d r v = Unit {0}
 abbrev pub IsFreeItem : Draft → ItemId → Type 0
 IsFreeItem d i = (is_closed d i ≡ true) × (is_placed d.table i ≡ false)
 
--- the rule r can be added to the draft: no rule of the draft has the name or the id of r, r has at most MOST_STEPS steps, and the steps name buckets and types that exist
+-- the rule r can be added to the draft: no rule of the draft has the name or the id of r, r has at most MOST_STEPS steps, and each bucket or type that a step names exists
 pub record IsFreeRule (d : Draft) (r : Rule) : Type 0 where
   pub name : has_rule_name d.setting r.name ≡ false
   pub id : has_rule_id d.setting r.id ≡ false
   pub steps : steps_fault d 0 r.steps.items ≡ None
 
--- the rule r has the name x, the id n, the `type` word k and these sizes, and no steps yet
+-- the rule r has the name x, the id n, the word k after `type`, these sizes of pools, and no steps yet
 pub record IsHead (x : List ℕ) (n : ℕ) (k : List ℕ) (least most : Option ℕ) (r : Rule) : Type 0 where
   pub name : r.name ≡ x
   pub id : r.id ≡ n

@@ -120,8 +120,9 @@ impl<'a, A: Allocator> MapReader<'a, A> {
 }
 
 /// Returns a rule without steps. The rule has copies of `name` and of `kind`, which is the word
-/// after `type`. `sizes` are the least and the largest size of the pools that the rule serves.
-/// Fails if memory runs out.
+/// after `type`. `sizes` has the least and the largest size of the pools that the rule serves. A
+/// size is `None` if the text doesn't give it. If memory runs out, fails at the place of `name` or
+/// of `kind`.
 fn rule_head_values(
     name: PlacedWord<'_>,
     id: u32,
