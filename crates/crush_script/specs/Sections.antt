@@ -20,7 +20,7 @@ use Rattle.crush_script.specs.Command.{command, operator}
 use Rattle.crush_script.specs.Lines.{lines, section_part, section_line, line_words, begins_section}
 use Rattle.crush_units.specs.declared.limits.TheConstants.{MOST_CALLS, MOST_EDITS, MOST_OPERATORS}
 
--- what was read from the lines so far: the scripts, and for each script the numbers of the lines that have its edits. `calls` is the number of calls that were begun in all scripts together. `begun` is the open batch, if there is one: a batch whose `commit` hasn't been read yet. It has the number of its `begin` line, the number of changes that this line names, and the edits so far.
+-- what was read from the lines so far: the scripts, and for each script the numbers of the lines that have its edits. `calls` is the number of calls that were begun in all scripts together. `begun` is the open batch, if there is one: a batch whose `commit` hasn't been read yet. This batch has the number of its `begin` line, the number of changes that this line names (if it names one), and the edits so far.
 pub record SectionsData : Type 0 where
   pub scripts : List ScriptData
   pub lines : List (List ℕ)
