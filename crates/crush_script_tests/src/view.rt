@@ -1,5 +1,5 @@
-//! Tests the texts of trees, lists of items and pairs of items, and the texts that say what has
-//! changed between two maps. The expected values follow the forms in docs/user/FORMATS.md.
+//! Tests printed trees, lists of items and pairs of items, and the texts that say what has changed
+//! between two maps. The expected values follow the forms in docs/user/FORMATS.md.
 
 mod change_parts;
 mod change_trees;

@@ -1,5 +1,5 @@
-//! Tests which differences remain in a part of two maps. The expected values were worked out by
-//! hand from the table in docs/dev/names.md.
+//! Tests which differences are listed between a part of a map and the same part of a wanted map.
+//! The expected values were worked out by hand from the table in docs/dev/names.md.
 
 use crate::plan::maps::*;
 use crush_since::{count_aside, push_stays, stays_part};

@@ -1,5 +1,5 @@
-//! Tests what has changed between two maps if items are matched by their names. The expected values
-//! were worked out by hand from the table in docs/dev/names.md.
+//! Tests what is printed as changed between two maps if items are matched by their names. The
+//! expected values were worked out by hand from the table in docs/dev/names.md.
 
 use crate::plan::maps::*;
 use crush_since::{is_changed_by_name, write_since_by_name, write_since_by_name_part};

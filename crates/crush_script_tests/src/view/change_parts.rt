@@ -1,4 +1,4 @@
-//! Tests the texts of parts of the tree that shows what has changed.
+//! Tests printed parts of the tree that shows what has changed from one map to another.
 
 use super::EXAMPLE_MAP;
 use super::change_trees::{ROW, ROW_AGAIN, SHRUNK};
@@ -11,7 +11,8 @@ use crush_units::{ItemId, TypeId};
 use std::alloc::Global;
 use std::process::Abort;
 
-/// Returns the item with this name in the new map or, if the new map has none, in the old map.
+/// Returns the item with this name in the new map. If the new map has no such item, returns the
+/// item with this name in the old map.
 fn item_of(old: &CrushMap<Global>, new: &CrushMap<Global>, name: Option<&str>) -> Option<ItemId> {
     let name = name?;
     match new.locate(name) {

@@ -1,4 +1,5 @@
-//! Tests what has changed in a part of a map, and whether anything has changed.
+//! Tests what is reported as changed in a part of a map, and whether anything is reported as
+//! changed.
 
 use super::EXAMPLE_MAP;
 use super::changes::MOVED;

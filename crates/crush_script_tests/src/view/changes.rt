@@ -70,7 +70,7 @@ const RULE: &[u8] = b"\
     root default { id -1 alg straw2 hash 0 item h1 weight 1.0 item h2 weight 0.0 }\n\
     rule data { id 0 type replicated step take default class hdd step take h1 step take h2 step emit }\n";
 
-/// The map `RULE` after `move osd.0 host=h2`. In addition, osd.0 has another class.
+/// The map `RULE` after `move osd.0 host=h2`, except that osd.0 also has another class.
 const RULE_EMPTIED: &[u8] = b"\
     device 0 osd.0 class ssd\n\
     type 1 host\n\
@@ -96,8 +96,8 @@ fn a_rule_that_finds_nothing_now_is_told(rt: HostRuntime) {
     assert!(rt; is_since(&rt, RULE, RULE_EMPTIED, changes));
 }
 
-/// A map with the three rules `gone`, `kept` and `data`. The map `OTHER_RULES` has no rule `gone`,
-/// a new rule `fast`, and another rule with the name `data`.
+/// The text of a map with the three rules `gone`, `kept` and `data`. The map `OTHER_RULES` has no
+/// rule `gone`, but it has a new rule `fast`, and another rule with the name `data`.
 const THREE_RULES: &[u8] = b"\
     type 11 root\n\
     root a { id -1 alg straw2 hash 0 }\n\
@@ -112,7 +112,7 @@ const OTHER_RULES: &[u8] = b"\
     rule kept { id 1 type replicated step take a step emit }\n\
     rule fast { id 3 type replicated step take a class ssd step emit }\n";
 
-/// The rules of `THREE_RULES` in another order.
+/// The map `THREE_RULES`, with its rules in another order.
 const TURNED_RULES: &[u8] = b"\
     type 11 root\n\
     root a { id -1 alg straw2 hash 0 }\n\

@@ -1,4 +1,5 @@
-//! Tests the texts of parts of trees, and the walks from which their lines are printed.
+//! Tests printed parts of trees, and the walks from which their lines are printed. A *walk* is the
+//! list of a map's items in the order of the tree.
 
 use super::EXAMPLE_MAP;
 use crate::maps::map_of;
