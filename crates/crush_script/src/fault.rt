@@ -94,8 +94,9 @@ pub enum BadLine {
 /// the map's text.
 #[derive(Clone, Copy, Debug, PartialEq, Eq, Error)]
 pub enum JobFault {
-    /// The line doesn't have the form of its command or of `%operator NAME`. Or the line is a
-    /// `begin` inside a batch, a `commit` outside a batch, or the 65,537th edit of a batch.
+    /// The line doesn't have the form that its first word requires, or it begins with `%` and isn't
+    /// a line `%operator NAME`. Or the line is a `begin` inside a batch, a `commit` outside a
+    /// batch, or the 65,537th edit of a batch.
     #[error("line {line}: BadLine: {why}")]
     BadLine {
         /// The number of the line.
