@@ -69,11 +69,11 @@ pub fn read_map(alloc: Global, text: &[u8]) -> Result<(CrushMap<Global>, Adjuste
 }
 
 /// Reads the text of a map as [`read_map`] does, but with a given allocator and hashing. The call
-/// returns the same values and fails with the same faults as [`read_map`]. The types, tunables and
-/// rules of the map are stored in memory of `global`, and the rest of the map in memory of `alloc`.
-/// `hashing` says how the indexes of the map hash names and ids. Pass a `hashing` with random keys
-/// if the text comes from an untrusted source. Without random keys, the author of the text can
-/// choose names that all have the same hash, and then look-ups are slow.
+/// makes the same promises about its result as [`read_map`]. The types, tunables and rules of the
+/// map are stored in memory of `global`, and the rest of the map in memory of `alloc`. `hashing`
+/// says how the indexes of the map hash names and ids. Pass a `hashing` with random keys if the
+/// text comes from an untrusted source. Without random keys, the author of the text can choose
+/// names that all have the same hash, and then look-ups are slow.
 pub fn read_map_in<A: Allocator + Clone>(
     global: Global,
     hashing: Hashing,
