@@ -9,7 +9,7 @@ alg_text Straw = codes "straw"
 alg_text Straw2 = codes "straw2"
 alg_text Linked = codes "list"
 
--- the algorithm that a word names, or none if it names none of the three
+-- the algorithm that a word names, or none if the word isn't `straw`, `straw2` or `list`
 abbrev pub alg_of_text : List ℕ → Option Alg
 alg_of_text word =
     if bytes_eq word (codes "straw") then Some Straw
@@ -17,7 +17,7 @@ alg_of_text word =
     else (if bytes_eq word (codes "list") then Some Linked
     else None))
 
--- the number of an algorithm, from 0, by which it can be stored
+-- a number for each algorithm, with which algorithms can be compared and encoded
 abbrev pub alg_number : Alg → ℕ
 alg_number Straw = 0
 alg_number Straw2 = 1

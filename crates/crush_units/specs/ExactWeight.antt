@@ -1,8 +1,8 @@
--- The exact text of a weight, with six digits after the point, which programs that round a weight down read as the same weight.
+-- The exact text of a weight, with six digits after the point. Programs that round a weight down to units, such as crushtool, read the same weight from this text.
 use Rattle.std.specs.Prelude.{◌≡◌, ℕ, ◌+◌, ◌*◌, ◌/◌, ◌^◌, ◌<◌, List, ◌∷◌, [], ◌++◌, length, Ok, decimal}
 use Rattle.crush_units.specs.Weight.{weight_of_text, number_in, fraction_of, digit}
 
--- the least number of millionths of 1.0 that isn't below a weight in units
+-- the weight in millionths of 1.0, rounded up to a whole number
 abbrev pub exact_parts : ℕ → ℕ
 exact_parts units = (units * 1000000 + 65535) / 65536
 
@@ -14,7 +14,7 @@ exact_text units =
     ∷ digit (exact_parts units / 100) ∷ digit (exact_parts units / 10) ∷ digit (exact_parts units)
     ∷ []
 
--- the decimal number, rounded down to units; it is given as the number that all its digits form, and how many of these digits are after the point
+-- a decimal number, rounded down to units. The first argument is the number that all its digits form without the point. The second argument is how many of these digits are after the point
 abbrev pub cut_of : ℕ → ℕ → ℕ
 cut_of number places = number * 65536 / 10 ^ places
 

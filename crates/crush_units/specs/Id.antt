@@ -18,7 +18,7 @@ abbrev pub bucket_of : ℤ → Option ℕ
 bucket_of (pos n) = None
 bucket_of (negsuc n) = Some (suc n)
 
--- the bucket at a distance below 0: the distance itself, or none if it isn't from 1 to 2147483648
+-- the bucket whose id is at a distance below 0: the distance itself, or none if it isn't from 1 to 2147483648
 abbrev pub bucket_below : ℕ → Option ℕ
 bucket_below n = if nat_lt 0 n && nat_le n FARTHEST_BUCKET_ID then Some n else None
 

@@ -15,7 +15,7 @@ is_name_byte b =
 abbrev pub are_name_bytes : List ℕ → Bool
 are_name_bytes bytes = list_all is_name_byte bytes
 
--- the bytes are a name: there is at least one, at most 255, and each is allowed in a name
+-- the bytes are a name: there are 1 to 255 bytes, and each is allowed in a name
 pub record IsName (bytes : List ℕ) : Type 0 where
   pub some : 0 < length bytes
   pub few : length bytes ≤ LONGEST_NAME
@@ -26,13 +26,13 @@ abbrev pub is_name : List ℕ → Bool
 is_name bytes =
     nat_lt 0 (length bytes) && nat_le (length bytes) LONGEST_NAME && are_name_bytes bytes
 
--- the place is the index of the first byte that isn't allowed in a name: it is below the number of bytes, the byte there isn't allowed, and each byte before it is
+-- the place is the index of the first byte that isn't allowed in a name: it is below the number of bytes, the byte at this index isn't allowed in a name, and each byte before it is allowed
 pub record IsFirstBad (bytes : List ℕ) (place : ℕ) : Type 0 where
   pub within : place < length bytes
   pub bad : is_name_byte (slice_index bytes place) ≡ false
   pub before : are_name_bytes (take place bytes) ≡ true
 
--- in which case a name read from the bytes may fail with each fault. Empty: there are no bytes. BadByte: the place is that of the first byte that isn't allowed. TooLong: there are more than 255 bytes, and all are allowed. OutOfMemory: the bytes are a name. For given bytes at most one of these faults is possible
+-- in which case the reading of a name from the bytes may fail with each fault. Empty: there are no bytes. BadByte: the place is the index of the first byte that isn't allowed. TooLong: there are more than 255 bytes, and all of them are allowed. OutOfMemory: the bytes are a name. For given bytes at most one of these faults is possible
 abbrev pub IsNameFault : List ℕ → NameFault → Type 0
 IsNameFault bytes Empty = bytes ≡ []
 IsNameFault bytes (BadByte place) = IsFirstBad bytes place

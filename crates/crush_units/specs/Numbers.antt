@@ -1,10 +1,10 @@
--- Which words are numbers in decimal.
+-- Which words are whole numbers in decimal, and the values of these numbers.
 use Rattle.std.specs.Prelude.{ℕ, ℤ, pos, neg_ℤ, Bool, ◌&&◌, ◌==◌, nat_le, nat_lt, List, drop, slice_index, if◌then◌else◌}
 use Rattle.std.specs.Str.Parse.{digits_value}
 use Rattle.crush_units.specs.Weight.{are_digits}
 use Rattle.crush_units.specs.declared.limits.TheConstants.{FARTHEST_BUCKET_ID, FARTHEST_COUNT, LARGEST_COUNT}
 
--- whether a word is 1 to 10 digits, and their value is at most `most`
+-- whether a word consists of 1 to 10 digits, and their value is at most `most`
 abbrev pub is_number : ℕ → List ℕ → Bool
 is_number most text = are_digits 10 text && nat_le (digits_value 10 text) most
 
@@ -16,6 +16,6 @@ is_negative text = (slice_index text 0 == 45) && is_number FARTHEST_BUCKET_ID (d
 abbrev pub is_signed : List ℕ → Bool
 is_signed text = if slice_index text 0 == 45 then is_number FARTHEST_COUNT (drop 1 text) else is_number LARGEST_COUNT text
 
--- the value of a word that is such a count, as a signed number
+-- the value of a word that is a count of items (is_signed), as a signed number
 abbrev pub signed_value : List ℕ → ℤ
 signed_value text = if slice_index text 0 == 45 then neg_ℤ (pos (digits_value 10 (drop 1 text))) else pos (digits_value 10 text)

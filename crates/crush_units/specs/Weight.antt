@@ -1,4 +1,4 @@
--- Weights in units, 65536 of which are 1.0: the weight that a text is read as, and the text that a weight is printed as.
+-- Which weight a text is read as, and which text a weight is printed as. Weights are in units: a weight of 1.0 has 65536 units.
 use Rattle.std.specs.Prelude.{◌≡◌, ℕ, ◌+◌, ◌*◌, ◌/◌, ◌%◌, ◌^◌, ◌<◌, Bool, not, ◌&&◌, ◌||◌, List, ◌∷◌, [], ◌++◌, length, take, drop, Result, Ok, Err, nat_le, ◌==◌, decimal, if◌then◌else◌}
 use Rattle.std.specs.List.{position_or_len, list_all}
 use Rattle.std.specs.Char.{is_ascii_digit}
@@ -7,11 +7,11 @@ use Rattle.crush_units.specs.declared.weight.WeightFault.{WeightFault}
 use Rattle.crush_units.specs.declared.weight.WeightFault.TheVariants.{Syntax, TooLarge}
 use Rattle.crush_units.specs.declared.limits.TheConstants.{HEAVIEST_BUCKET}
 
--- the decimal number, rounded to the nearest unit, with a half rounded up; it is given as the number that all its digits form, and how many of these digits are after the point
+-- a decimal number, rounded to the nearest unit; half a unit is rounded up. The first argument is the number that all its digits form without the point. The second argument is how many of these digits are after the point
 abbrev pub units_of : ℕ → ℕ → ℕ
 units_of number places = (number * 131072 + 10 ^ places) / (2 * 10 ^ places)
 
--- the nearest number of hundred-thousandths of 1.0 to a weight in units; a half is rounded up
+-- the weight in hundred-thousandths of 1.0, rounded to the nearest whole number; a half is rounded up
 abbrev pub parts_of : ℕ → ℕ
 parts_of units = (units * 200000 + 65536) / 131072
 
@@ -19,7 +19,7 @@ parts_of units = (units * 200000 + 65536) / 131072
 abbrev pub is_point : ℕ → Bool
 is_point byte = byte == 46
 
--- the bytes before the first point, or all if there is no point
+-- the bytes before the first point, or all bytes if there is no point
 abbrev pub whole_of : List ℕ → List ℕ
 whole_of text = take (position_or_len is_point text) text
 
@@ -31,7 +31,7 @@ tail_of text = drop (position_or_len is_point text) text
 abbrev pub fraction_of : List ℕ → List ℕ
 fraction_of text = drop 1 (tail_of text)
 
--- whether a text is 1 to `most` digits and nothing else
+-- whether a text consists of 1 to `most` digits
 abbrev pub are_digits : ℕ → List ℕ → Bool
 are_digits most text =
     not (length text == 0) && nat_le (length text) most && list_all is_ascii_digit text
@@ -46,11 +46,11 @@ is_weight_text text =
 abbrev pub number_in : List ℕ → ℕ
 number_in text = digits_value_after 10 (digits_value 10 (whole_of text)) (fraction_of text)
 
--- the weight of this many units, or TooLarge if there are more than 4294967295
+-- the weight with this number of units, or TooLarge if the number is above 4294967295
 abbrev pub weight_of_units : ℕ → Result ℕ WeightFault
 weight_of_units units = if nat_le units HEAVIEST_BUCKET then Ok units else Err TooLarge
 
--- the weight in units that a text is read as: Syntax if the text doesn't have the form of a weight, and TooLarge if the rounded number of units is above 4294967295
+-- the weight in units that a text is read as, or a fault: Syntax if the text doesn't have the form of a weight, and TooLarge if the rounded number of units is above 4294967295
 abbrev pub weight_of_text : List ℕ → Result ℕ WeightFault
 weight_of_text text =
     if is_weight_text text

@@ -1,4 +1,4 @@
--- The words of a map's text with their places, and why there are no more after the last. A place is an index of a byte, from 0.
+-- The words of a map's text with their places, and the reason why no word follows the last one. A place is an index of a byte, from 0.
 use Rattle.std.specs.Prelude.{◌≢◌, ◌≡◌, ℕ, ◌+◌, Bool, true, false, ◌||◌, List, ◌∷◌, [], length, drop, map, bytes_eq, nat_lt, ◌==◌, if◌then◌else◌}
 use Rattle.crush_units.specs.Name.{is_name_byte, is_name}
 use Rattle.crush_units.specs.declared.limits.TheConstants.{LONGEST_NAME}
@@ -8,12 +8,12 @@ pub record Word : Type 0 where
   pub place : ℕ
   pub text : List ℕ
 
--- what ends the words. `ended` has the place at the end of the text. `bad` has the place of a byte that no text may have, or the place where a word of more than 255 bytes begins
+-- the reason why no word follows, with a place. `ended`: the text ends at this place. `bad`: the byte at this place is allowed only in comments, or a word of more than 255 bytes begins at this place
 pub data Stop : Type 0 where
   ended : ℕ → Stop
   bad : ℕ → Stop
 
--- the words of a text, or those that are not read yet, and what ends them
+-- the words of a text, or those that are not read yet, and the reason why no word follows the last of them
 pub record Text : Type 0 where
   pub words : List Word
   pub stop : Stop
@@ -32,7 +32,7 @@ without_comments inside [] = []
 without_comments false (b ∷ bs) = if b == 35 then 32 ∷ without_comments true bs else b ∷ without_comments false bs
 without_comments true (b ∷ bs) = if b == 10 then 10 ∷ without_comments false bs else 32 ∷ without_comments true bs
 
--- a text without words, ended by this stop
+-- a text without words, with the given reason why no word follows
 abbrev pub stopped : Stop → Text
 stopped stop = record { words = []; stop = stop }
 
@@ -50,7 +50,7 @@ abbrev pub begins_with_name_byte : List ℕ → Bool
 begins_with_name_byte [] = false
 begins_with_name_byte (b ∷ bs) = is_name_byte b
 
--- the words of bytes without comments that begin at a place: blanks separate words, a brace is a word by itself, and a run of name bytes of any length is a word. The words end at the end of the bytes, or at the first byte that is none of these
+-- the words of bytes without comments. The place is the index of the first of these bytes in the text. Blanks separate words, a brace is a word by itself, and a sequence of name bytes of any length is a word. The words end at the end of the bytes, or at the first byte that is neither a blank nor a brace nor a name byte
 unfoldable pub split : ℕ → List ℕ → Text
 split place [] = stopped (ended place)
 split place (b ∷ bs) =
@@ -59,16 +59,16 @@ split place (b ∷ bs) =
     else (if is_name_byte b then (if begins_with_name_byte bs then record { words = onto_words place b (split (place + 1) bs).words; stop = (split (place + 1) bs).stop } else first place (b ∷ []) (split (place + 1) bs))
     else stopped (bad place)))
 
--- the words before the first word that is longer than a name may be; the place of that word is then what ends them. If no word is too long, all the words, ended by the given stop
+-- the words before the first word of more than 255 bytes; the reason why no word follows is then `bad`, with the place of that long word. If there is no such word, the result has all words, and the given reason
 unfoldable pub up_to_long : List Word → Stop → Text
 up_to_long [] stop = stopped stop
 up_to_long (w ∷ ws) stop = if nat_lt LONGEST_NAME (length w.text) then stopped (bad w.place) else first w.place w.text (up_to_long ws stop)
 
--- the words of bytes that begin at a place; the first argument says whether they begin inside a comment
+-- the words of bytes. The first argument says whether the first byte is inside a comment. The second argument is the index of the first byte in the text
 unfoldable pub words_in : Bool → ℕ → List ℕ → Text
 words_in inside place bytes = up_to_long (split place (without_comments inside bytes)).words (split place (without_comments inside bytes)).stop
 
--- the words of bytes that begin at a place, outside of comments
+-- the words of bytes whose first byte isn't inside a comment. The place is the index of this byte in the text
 abbrev pub words : ℕ → List ℕ → Text
 words place bytes = words_in false place bytes
 

@@ -3,15 +3,16 @@
 ghost use Rattle.std.specs.Prelude.{◌≡◌, IsTrue, ◌↔◌, IfSome, Some};
 ghost use Rattle.crush_units.specs.Alg.{alg_text, alg_of_text, same_alg};
 
-/// The algorithm by which a bucket chooses among its items. Ceph has further algorithms, which no
-/// map here can have. The order of the variants is the order of `Ord`.
+/// The algorithm by which a bucket chooses among its items. Ceph has further algorithms, such as
+/// `uniform`, which this editor doesn't support. `Ord` orders the algorithms in the order of the
+/// variants.
 #[derive(Clone, Copy, Debug, PartialEq, Eq, PartialOrd, Ord, Hash)]
 pub enum Alg {
     /// Each item draws a straw, and the longest straw wins. The lengths of the straws are computed
     /// from the weights of all items of the bucket.
     Straw,
-    /// As `Straw`, except that the length of a straw depends only on the weight of its own item.
-    /// New buckets have this algorithm.
+    /// Like `Straw`, except that the weights of the other items don't influence the length of an
+    /// item's straw. Each bucket that an edit creates has this algorithm.
     Straw2,
     /// The bucket keeps its items as a linked list.
     List,

@@ -15,7 +15,7 @@ use crate::weight::{Weight, WeightFault};
 use std::str::FromStr;
 use thiserror::Error;
 
-/// The error of a conversion to an id: why a number isn't an id.
+/// The error of a conversion from a number to an id. It says why the number isn't an id.
 #[derive(Clone, Copy, Debug, PartialEq, Eq, Error)]
 pub enum IdFault {
     /// The number isn't the id of a device.
@@ -26,8 +26,7 @@ pub enum IdFault {
     NotBucket,
 }
 
-/// The error of reading a text as an algorithm: the text is none of the words `straw`, `straw2` and
-/// `list`.
+/// The error of reading a text as an algorithm. The text isn't `straw`, `straw2` or `list`.
 #[derive(Clone, Copy, Debug, PartialEq, Eq, Error)]
 #[error("not an algorithm: expected straw, straw2 or list")]
 pub struct AlgFault;

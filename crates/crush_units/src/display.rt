@@ -1,5 +1,6 @@
-//! Prints names, ids, types, weights and algorithms with `{}`, as they are written in a map's text.
-//! `{:?}` prints a name in quotation marks, as it prints a `str`.
+//! Implements printing with `{}` and `{:?}`. `{}` prints names, ids, numbers of types, weights and
+//! algorithms in the form that they have in a map's text. `{:?}` prints a name in quotation marks,
+//! in the same way as a `str`.
 
 ghost use Rattle.std.specs.Prelude.{Some, decimal};
 ghost use Rattle.std.specs.Fmt.{debug_str};

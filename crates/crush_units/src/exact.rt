@@ -12,7 +12,7 @@ impl Weight {
     /// this form that isn't below the weight. For example, 1 unit is written as `0.000016`.
     ///
     /// [`Weight::read`], which rounds to the nearest unit, reads the same weight from this text. A
-    /// program that rounds down to units also reads the same weight.
+    /// program that rounds down to units, such as Ceph's `crushtool`, also reads the same weight.
     #[tactic(auto, using(crate::proofs::ExactWeights::exact_part_short))]
     pub fn exact_text(&self, out: &mut [u8; 16]) -> usize
         ensures fits { result ≤ 16 }

@@ -77,10 +77,10 @@ impl PartialOrd for BucketId {
     }
 }
 
-/// The id of an item of the hierarchy, which is a device or a bucket. Each device is less than each
-/// bucket. Two devices are ordered as [`DeviceId`] orders them, and two buckets as [`BucketId`]
-/// orders them. So the order isn't the order of the numbers, because the numbers of buckets are
-/// below 0.
+/// The id of an item of a map. An item is a device or a bucket. Each id of a device is less than
+/// each id of a bucket. Two ids of devices are ordered as [`DeviceId`] orders them, and two ids of
+/// buckets are ordered as [`BucketId`] orders them. So the order isn't the order of the numbers,
+/// because the numbers of buckets are below 0.
 #[derive(Clone, Copy, Debug, PartialEq, Eq, PartialOrd, Ord, Hash)]
 pub enum ItemId {
     /// The item is a device.
@@ -209,7 +209,7 @@ impl TypeId {
         TypeId { kind: number }
     }
 
-    /// Returns the type's number.
+    /// Returns the type's number, from 0 to 65535.
     pub fn number(self) -> u16
         ensures value { result ≡ self }
         ensures range { self < 2 ^ 16 }

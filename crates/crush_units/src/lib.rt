@@ -3,8 +3,8 @@
 //! values and of a map's size.
 //!
 //! `{}` prints each of these values as it is written in a map's text. Of all these values, only
-//! names of more than 30 bytes allocate memory. [`Reader`] splits a map's text into words. [`put`]
-//! and [`put_all`] write bytes, and fail with a [`WriteFault`].
+//! names of more than 30 bytes allocate memory. [`number`] reads whole numbers. [`Reader`] splits a
+//! map's text into words. [`put`] and [`put_all`] write bytes, and fail with a [`WriteFault`].
 #![tactic(auto)]
 
 mod alg;

@@ -188,7 +188,8 @@ pub fn is_name_byte(byte: u8) -> bool
     matches!(byte, b'0'..=b'9' | b'A'..=b'Z' | b'a'..=b'z' | b'-' | b'_' | b'.')
 }
 
-/// Returns the index of the first byte that isn't allowed in a name.
+/// Returns the index of the first byte that isn't allowed in a name, or `None` if each byte is
+/// allowed.
 fn first_bad(bytes: &[u8]) -> Option<usize>
     ensures { MatchOption result (are_name_bytes bytes.now ≡ true) (IsFirstBad bytes.now) }
 {

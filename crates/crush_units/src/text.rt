@@ -1,5 +1,5 @@
-//! The text of a name. A text of up to 30 bytes is stored in the value itself, so that it needs no
-//! memory from an allocator.
+//! The text of a name. A text of up to 30 bytes is stored in the value itself, so that no memory
+//! has to be allocated for it.
 
 ghost use Rattle.std.specs.Prelude.{◌≡◌, ◌≤◌, ◌<◌, IfOk, IfErr, OnErr, length};
 ghost use Rattle.std.specs.Str.{IsUtf8};
@@ -10,7 +10,7 @@ use std::alloc::{AllocError, Allocator};
 use std::marker::Model;
 use std::str;
 
-/// A text of at most 30 bytes: the first `count` of `bytes`.
+/// A text of at most 30 bytes: the first `count` bytes of the array `bytes`.
 #[derive(Drop)]
 pub(crate) struct Short {
     count: u8,
@@ -58,7 +58,7 @@ impl Short {
     }
 }
 
-/// A text that is stored in the value or, if it is longer than 30 bytes, in allocated memory.
+/// A text. It is stored in the value itself or, if it is longer than 30 bytes, in allocated memory.
 #[derive(Drop)]
 pub(crate) enum Text<A: Allocator> {
     Short(Short),

@@ -36,9 +36,10 @@ impl WeightFault {
     }
 }
 
-/// A weight, from 0 to 4294967295 units. 65536 units are 1.0, as in Ceph: its weights are
-/// fixed-point numbers with 16 bits before the point and 16 bits after it. In contracts a weight's
-/// value is its number of units. Weights are ordered by their units, and the default is 0.
+/// A weight, from 0 to 4294967295 units. A weight of 1.0 has 65536 units. This is Ceph's own form
+/// of weights: a fixed-point number with 16 bits before the point and 16 bits after it. In
+/// contracts a weight's value is its number of units. Weights are ordered by their units, and the
+/// default is 0.
 #[derive(Clone, Copy, Debug, PartialEq, Eq, PartialOrd, Ord, Hash)]
 pub struct Weight {
     units: u32,
@@ -63,14 +64,14 @@ impl Default for Weight {
 }
 
 impl Weight {
-    /// Returns the weight of this many units, of which 65536 are 1.0.
+    /// Returns the weight with this number of units. A weight of 1.0 has 65536 units.
     pub fn from_units(units: u32) -> Weight
         ensures { result ≡ units }
     {
         Weight { units }
     }
 
-    /// Returns the weight in units, of which 65536 are 1.0.
+    /// Returns the weight in units. A weight of 1.0 has 65536 units.
     pub fn units(self) -> u32
         ensures value { result ≡ self }
         ensures range { self < 2 ^ 32 }
@@ -78,16 +79,16 @@ impl Weight {
         self.units
     }
 
-    /// Whether a device can have this weight, that is, whether it is at most 2147483647 units.
+    /// Whether a device can have this weight. The weight of a device is at most 2147483647 units.
     pub fn is_device_weight(self) -> bool
         ensures { IsTrue result ↔ (self ≤ HEAVIEST_DEVICE) }
     {
         self.units <= HEAVIEST_DEVICE
     }
 
-    /// Reads a weight from a text such as `1.5`. The text is 1 to 10 digits, optionally followed by
-    /// a point and 1 to 18 digits. The number is rounded to the nearest unit, and a half is rounded
-    /// up: `1.0` and `1.00000` are 65536 units.
+    /// Reads a weight from a text such as `1.5`. The text consists of 1 to 10 digits, optionally
+    /// followed by a point and 1 to 18 digits. The number is rounded to the nearest unit, and half
+    /// a unit is rounded up. For example, `1.0` and `1.00000` are read as 65536 units.
     ///
     /// Fails with `Syntax` if the text doesn't have this form, and with `TooLarge` if the rounded
     /// weight is above 4294967295 units.
@@ -119,8 +120,8 @@ impl Weight {
     }
 
     /// Writes the weight's text to the start of `out` and returns the length of the text, 7 to 11
-    /// bytes. The text is a whole number, a point and five digits. The weight is rounded to the
-    /// nearest hundred-thousandth of 1.0, and a half is rounded up.
+    /// bytes. The text is a whole number, a point and five digits. The printed number is rounded to
+    /// the nearest multiple of 0.00001, and half of 0.00001 is rounded up.
     #[tactic(auto, using(crate::proofs::Parts::whole_part_short))]
     pub fn text(&self, out: &mut [u8; 16]) -> usize
         ensures fits { result ≤ 16 }
@@ -204,9 +205,9 @@ fn ten_to(places: usize) -> u128
     power
 }
 
-/// Rounds a decimal number to the nearest unit; a half is rounded up. `number` consists of all
-/// digits of the decimal number, of which the last `places` are those after the point. Fails with
-/// `TooLarge` if the result is above 4294967295 units.
+/// Rounds a decimal number to the nearest unit; half a unit is rounded up. `number` is the number
+/// that all digits form without the point, and `places` is how many digits follow the point. Fails
+/// with `TooLarge` if the result is above 4294967295 units.
 fn round(number: u128, places: usize) -> Result<Weight, WeightFault>
     requires number { number < 10 ^ 28 }
     requires places { places ≤ 18 }

@@ -1,5 +1,5 @@
-//! Splits a map's text into words. A word is a brace or a run of bytes that are allowed in names.
-//! Blanks and comments are skipped; a comment extends from `#` to the end of its line.
+//! Splits a map's text into words. A word is a brace, or a sequence of bytes that are allowed in
+//! names. Blanks and comments are skipped. A comment extends from `#` to the end of its line.
 
 ghost use Rattle.std.specs.Prelude.{◌≡◌, if◌then◌else◌, ◌+◌, ◌<◌, ◌≤◌, length, drop, IsTrue};
 ghost use Rattle.crush_units.specs.Name.{is_name_byte};
@@ -13,12 +13,12 @@ use std::marker::Model;
 /// text, from 0.
 #[derive(Clone, Copy)]
 pub enum Token<'a> {
-    /// The next word begins at `place`, and `text` has its bytes. The word is a brace, or a run of
-    /// bytes that names may have: a name, a keyword or a number.
+    /// The next word begins at `place`, and `text` has its bytes. The word is a brace, or it
+    /// consists of 1 to 255 bytes that are allowed in names: it is a name, a keyword or a number.
     Word { place: usize, text: &'a [u8] },
     /// The text has no further word. `place` is the text's length.
     End { place: usize },
-    /// The byte at `place` is one that no text may have, or it is the first byte of a word of more
+    /// The byte at `place` is allowed only in comments, or it is the first byte of a word of more
     /// than 255 bytes.
     Bad { place: usize },
 }
@@ -51,7 +51,7 @@ fn is_word_byte(byte: u8) -> bool
     matches!(byte, b'0'..=b'9' | b'a'..=b'z') || is_name_byte(byte)
 }
 
-/// Returns the length of the longest prefix all of whose bytes are allowed in names.
+/// Returns the number of bytes, at the start of `bytes`, that are allowed in names.
 fn run_length(bytes: &[u8]) -> usize
     ensures count { result ≡ run_length bytes.now }
     ensures within { result ≤ length bytes.now }
@@ -64,7 +64,8 @@ fn run_length(bytes: &[u8]) -> usize
 }
 
 /// Returns the index of the first byte, at `from` or after it, that is neither a blank nor in a
-/// comment. If there is none, returns the text's length.
+/// comment. If there is no such byte, returns the text's length. The function assumes that `from`
+/// isn't inside a comment.
 fn skip_blanks(text: &[u8], from: usize) -> usize
     requires { from ≤ length text.now }
     ensures within { result ≤ length text.now }
@@ -124,7 +125,7 @@ impl<'a> Lexer<'a> {
 }
 
 /// Reads the words of a text one after the other. In contracts the value of a reader is the list of
-/// the words that it has not read yet, and what ends them.
+/// the words that it has not read yet, with the reason why no word follows the last of them.
 #[derive(Drop)]
 pub struct Reader<'a> {
     lexer: Lexer<'a>,
@@ -143,7 +144,7 @@ impl<'a> Model for Reader<'a> {
 impl<'a> Reader<'a> {
     ghost use Rattle.crush_units.specs.Lexer.{Nexts, IsFormed};
 
-    /// Returns a reader that is before the first word of the text.
+    /// Returns a reader that has read no word of the text yet.
     pub fn new(text: &'a [u8]) -> Reader<'a>
         ensures { result ≡ words 0 text.now }
     {
@@ -152,9 +153,10 @@ impl<'a> Reader<'a> {
         }
     }
 
-    /// Reads the next word and moves past it. At the end of the text, or at a place that can't be
-    /// read, returns `End` or `Bad`, and each later call returns the same. The cost is linear in
-    /// the number of bytes that are read or skipped.
+    /// Reads the next word and moves past it. If the text has no further word, returns `End`. If
+    /// the next byte that isn't skipped doesn't begin a valid word, returns `Bad`. After `End` or
+    /// `Bad`, each later call returns the same. The cost is linear in the number of bytes that are
+    /// read or skipped.
     pub fn next(&mut self) -> Token<'a>
         ensures nexts { Nexts result self.old self.new }
         ensures formed { IsFormed result }
@@ -163,9 +165,9 @@ impl<'a> Reader<'a> {
         self.lexer.next()
     }
 
-    /// Moves past the next word if it equals `key`, and returns whether it does. If it doesn't, or
-    /// if there is no next word, nothing changes. The cost is linear in the number of bytes that
-    /// are read or skipped.
+    /// Moves past the next word if that word is `key`, and returns whether it is. If the next word
+    /// is another word, or if there is no next word, nothing changes. The cost is linear in the
+    /// number of bytes that are read or skipped.
     pub fn take_key(&mut self, key: &[u8]) -> bool
         ensures answer { result ≡ begins key.now self.old }
         ensures rest { self.new ≡ (if result then past self.old else self.old) }

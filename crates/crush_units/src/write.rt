@@ -29,10 +29,11 @@ impl WriteFault {
     }
 }
 
-/// Writes all bytes to `out`, and doesn't flush it. Stops when `out` returns its first error, which
-/// may also be an interrupted write, or accepts no byte. Then it fails with `Write`, and has
-/// written a proper prefix of the bytes: a beginning, but not all of them. It never fails with
-/// `OutOfMemory`.
+/// Writes all bytes to `out`, without flushing `out`.
+///
+/// Fails with `Write` if `out` returns an error or accepts no byte. An interrupted write is also
+/// such an error: the function doesn't try it again. A proper prefix of the bytes has then been
+/// written: a beginning, but not all of them. The function never fails with `OutOfMemory`.
 pub fn put<W: Write>(out: &mut W, bytes: &[u8]) -> Result<(), WriteFault>
     ensures writes { Writes result (W.contents out.old) (W.contents out.new) bytes.now }
     ensures fault { IfErr result (λ fault. fault ≡ WriteFault.Write) }
@@ -49,9 +50,10 @@ pub fn put<W: Write>(out: &mut W, bytes: &[u8]) -> Result<(), WriteFault>
     Ok(())
 }
 
-/// Writes the parts to `out`, one after the other, as [`put`] writes its bytes. If this fails, the
-/// fault is `Write`, and a proper prefix of the joined parts has been written: a beginning, but not
-/// all of them.
+/// Writes the parts to `out`, one after the other, in the same way as [`put`].
+///
+/// Fails with `Write` in the same cases as [`put`]. A proper prefix of the joined parts has then
+/// been written: a beginning, but not all of them.
 pub fn put_all<W: Write>(out: &mut W, parts: &[&[u8]]) -> Result<(), WriteFault>
     ensures writes { Writes result (W.contents out.old) (W.contents out.new)
         (flat_map (λ part. part.now) parts.now) }
