@@ -1,4 +1,5 @@
-//! Prints pairs, locations and edits with `{}`, as the commands of a script have them.
+//! Implements printing with `{}`. Pairs, locations and edits are printed in the form that they have
+//! in the commands of a script.
 
 ghost use Rattle.std.specs.Prelude.{Some};
 ghost use Rattle.crush_edits.specs.EditText.{edit_text, pair_word, pairs_text};
@@ -32,8 +33,9 @@ impl fmt::Display for Location {
     }
 }
 
-/// Prints the edit as its command in a script, such as `reweight osd.1 0.50000`. Weights have five
-/// decimals. A device's id isn't printed: a script takes it from the name `osd.N`.
+/// Prints the command that makes the edit in a script, such as `reweight osd.1 0.50000`. Weights
+/// have five digits after the point. The id in an `Edit::Place` isn't printed: the parser of
+/// scripts takes this id from the device's name, which must be `osd.N`.
 impl fmt::Display for Edit {
     ghost output = { λ edit. Some (edit_text edit) };
 

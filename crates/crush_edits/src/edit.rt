@@ -1,4 +1,4 @@
-//! The edits of a map, one variant for each command of `ceph osd crush` that is supported.
+//! The edits of a map. They make the same changes as commands of `ceph osd crush`.
 
 ghost use Rattle.std.specs.Prelude.{◌≡◌, IfOk};
 
@@ -7,33 +7,38 @@ use crush_units::{DeviceId, Name, Weight};
 use std::alloc::{AllocError, Global};
 
 /// What [`Edit::Place`] does with a device that is already in a bucket. At the end of each
-/// variant's comment, brackets name the command and the function of Ceph.
+/// variant's comment, brackets have the name of the command, and the name of the function with
+/// which Ceph makes the edit.
 #[derive(Clone, Copy, Debug, PartialEq, Eq)]
 pub enum Placing {
-    /// The edit is refused: the device must not be in a bucket yet (`add`, `insert_item`).
+    /// If the device is already in a bucket, the edit is refused. Any other device is put at the
+    /// location with the edit's `weight` (`add`, `insert_item`).
     Insert,
-    /// A device that is in another bucket is moved to the location, and keeps its own weight. A
-    /// device that is in no bucket is put there with the weight `weight`. If the location's bucket
-    /// of the lowest type already holds the device, nothing changes (`create-or-move`,
-    /// `create_or_move_item`).
+    /// If the location's bucket of the lowest type already holds the device, nothing changes. A
+    /// device that is in another bucket is moved to the location, and keeps its own weight. A
+    /// device that is in no bucket is put at the location with the edit's `weight`
+    /// (`create-or-move`, `create_or_move_item`).
     CreateOrMove,
-    /// The device is moved to the location, unless the location's bucket of the lowest type already
-    /// holds the device. In both cases the device gets the weight `weight` (`set`, `update_item`).
+    /// The device is put at the location, unless the location's bucket of the lowest type already
+    /// holds the device. In both cases the device gets the edit's `weight` (`set`, `update_item`).
     Update,
 }
 
-/// An edit of a map, as a command of `ceph osd crush` makes it. At the end of each variant's
-/// comment, brackets name this command and, for most edits, the function of Ceph.
+/// An edit of a map: a change that a command of `ceph osd crush` also makes. At the end of each
+/// variant's comment, brackets have the name of this command and, for most edits, the name of the
+/// function with which Ceph makes the edit.
 ///
-/// The fields `name`, `a`, `b` and `from` are names of items, `to` is the new name of a bucket,
-/// `kind` is the name of a type, and `class` is the name of a class. `weight` is the weight of a
-/// device, and `at` is the location where an item is to be put.
+/// The fields `name`, `a`, `b` and `from` are names of items (in `AddBucket`, `name` is the name of
+/// the new bucket), `to` is the new name of a bucket, `kind` is the name of a type, and `class` is
+/// the name of a class. `weight` is the weight of a device, and `at` is the location where an item
+/// is to be put.
 #[derive(Debug, PartialEq, Eq, Drop)]
 pub enum Edit {
-    /// Puts a device into the bucket that the location leads to. If the id is new, the edit creates
-    /// the device. `how` says what happens to a device that is already in a bucket, and which weight
-    /// the device gets (`add`, `create-or-move` or `set`). [`Edit::place`] makes an edit whose name
-    /// belongs to its id, so that its command is parsed as the same edit.
+    /// Puts a device at a location. If the map has no device with this id, the edit creates the
+    /// device. `how` says what happens to a device that is already in a bucket, and which weight
+    /// the device gets (`add`, `create-or-move` or `set`). [`Edit::place`] creates such an edit
+    /// with the name `osd.N` for the id N. Only with this name is the edit's command in a script
+    /// parsed as the same edit, because the command has no id.
     Place {
         how: Placing,
         device: DeviceId,
@@ -74,7 +79,7 @@ pub enum Edit {
         name: Name<Global>,
         kind: Name<Global>,
     },
-    /// Gives the bucket of name `from` the name `to` (`rename-bucket`, `rename_bucket`).
+    /// Changes the name of a bucket from `from` to `to` (`rename-bucket`, `rename_bucket`).
     Rename {
         from: Name<Global>,
         to: Name<Global>,

@@ -1,11 +1,13 @@
-//! The words and the forms of the commands that make edits.
+//! The commands of a script that make edits: the first word of each command, and the form of its
+//! line.
 
 ghost use Rattle.std.specs.Prelude.{◌≡◌, Some};
 ghost use Rattle.crush_edits.specs.Keyword.{edit_keyword, keyword_form, keyword_of, keyword_word, placing_form, placing_word};
 
 use crate::edit::{Edit, Placing};
 
-/// A command of a script that makes one edit.
+/// The kind of a command in a script. The first word of a command's line says of which kind the
+/// command is. Each command of these kinds makes one edit.
 #[derive(Clone, Copy, Debug, PartialEq, Eq)]
 pub enum Keyword {
     /// `add`, `create-or-move` or `set`.
@@ -31,7 +33,7 @@ pub enum Keyword {
 }
 
 impl Placing {
-    /// Returns the word of the command that places a device in this way.
+    /// Returns the first word of the command that places a device in this way.
     pub fn word(self) -> &'static str
         ensures { result.now ≡ placing_word self }
     {
@@ -54,7 +56,8 @@ impl Placing {
 }
 
 impl Keyword {
-    /// Returns the command that a word names, or `None` if the word names no command.
+    /// Returns the kind of the commands that begin with this word, or `None` if no command that
+    /// makes an edit begins with it. Both `rm` and `remove` give [`Keyword::Rm`].
     #[tactic(auto, unfolding(crate::specs::Keyword::keyword_of))]
     pub fn read(word: &[u8]) -> Option<Keyword>
         ensures { result ≡ keyword_of word.now }
@@ -88,8 +91,8 @@ impl Keyword {
         }
     }
 
-    /// Returns the word of the command, which [`Keyword::read`] reads. For `rm`, which has two
-    /// words, it is `rm`.
+    /// Returns the first word of the commands of this kind. For `Rm`, the word is `rm`, and not
+    /// `remove`. If [`Keyword::read`] reads this word, it returns the same kind.
     #[tactic(auto, unfolding(crate::specs::Keyword::keyword_of))]
     pub fn word(self) -> &'static str
         ensures word { result.now ≡ keyword_word self }
@@ -109,7 +112,8 @@ impl Keyword {
         }
     }
 
-    /// Returns the form of the command's lines, such as `reweight NAME WEIGHT`.
+    /// Returns the form that the line of a command of this kind has, such as `reweight NAME
+    /// WEIGHT`.
     pub fn form(self) -> &'static str
         ensures { result.now ≡ keyword_form self }
     {
@@ -129,7 +133,7 @@ impl Keyword {
 }
 
 impl Edit {
-    /// Returns the command with which a script writes this edit.
+    /// Returns the kind of the command that makes this edit in a script.
     pub fn keyword(&self) -> Keyword
         ensures { result ≡ edit_keyword self.now }
     {

@@ -1,4 +1,5 @@
-//! Laws of the edits. Each law is the contract of a function whose body is empty.
+//! Laws about edits. Each law is the contract of a function with an empty body. So no program needs
+//! to call these functions.
 
 pub mod edit;
 pub mod order;

@@ -1,8 +1,11 @@
-//! The edits of a CRUSH map as values: this crate describes edits, and `crush_apply` makes them.
+//! The edits of a CRUSH map. This crate defines edits as values, and says what each edit does. The
+//! crate `crush_apply` applies edits to the nested buckets of a map.
 //!
-//! An [`Edit`] is one command. A [`Location`] says where a command puts an item. A [`Refusal`] says
-//! why an edit isn't made. A [`Setting`] holds what a map has besides its items. `specs/Edit.antt`
-//! defines what each edit does to the table of a map; read that first.
+//! An [`Edit`] is the change that one command makes. A [`Location`] says where a command puts an
+//! item. A [`Refusal`] says why an edit is refused. A [`Setting`] has the other parts of a map: its
+//! types, tunables and rules. The *table* of a map is the model that contracts use for its items: a
+//! list with one row for each item. `specs/Edit.antt` defines what each edit does to the table.
+//! Read this file first.
 #![tactic(auto)]
 
 mod display;

@@ -13,7 +13,8 @@ use std::alloc::{AllocError, Global};
 use std::marker::Model;
 use thiserror::Error;
 
-/// The name of a type and the name of a bucket, such as `host=h1` in a command.
+/// A pair of a location: the name of a type and the name of a bucket. A command has the pair in the
+/// form `host=h1`.
 #[derive(Debug, PartialEq, Eq, Drop)]
 pub struct Pair {
     /// The name of the bucket's type, for example `host`.
@@ -27,8 +28,8 @@ pub struct Pair {
 /// An edit reads the pairs in ascending order of their types' numbers, and puts the item into the
 /// bucket of the first pair. If that bucket isn't in the map, the edit creates it in the bucket of
 /// the next pair, and so on up to the first bucket that is in the map. If no pair's bucket is in
-/// the map, the last bucket that is created is a root. The remaining pairs are checked, and
-/// otherwise ignored.
+/// the map, the last bucket that is created is a root. The pairs after the first bucket that is in
+/// the map are checked, and otherwise ignored.
 #[derive(Debug, Drop)]
 pub struct Location {
     pairs: Vec<Pair>,

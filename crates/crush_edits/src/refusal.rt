@@ -11,6 +11,9 @@ use thiserror::Error;
 /// listed first here, which has the lowest [`number`](Refusal::number).
 ///
 /// A refused edit changes nothing. The numbers and their order are this editor's own, not Ceph's.
+///
+/// In the comments of the variants, a location *leads to* the item of the map that a pair of the
+/// location names. If several pairs name items of the map, the pair with the lowest type counts.
 #[derive(Clone, Copy, Debug, PartialEq, Eq)]
 pub enum Refusal {
     /// The name of the device is also the name of a bucket in its location.
@@ -25,15 +28,16 @@ pub enum Refusal {
     /// The weight is above 2147483647 units. The edit is refused even if it wouldn't use the
     /// weight.
     WeightTooLarge,
-    /// The map has no item of this name. `Rename` is refused with this if the map has neither the
-    /// old nor the new name.
+    /// The map has no item with a name that the edit gives. `Rename` is refused for this reason
+    /// only if the map has neither the old nor the new name.
     NoSuchItem,
-    /// Another item has the name, or the device of this id has another name. `Rename` is refused
-    /// with this if the map has both the old and the new name, even if they are the same.
+    /// The name already belongs to another item, or the device with the id of a `Place` has another
+    /// name. `Rename` is refused for this reason if the map has both the old and the new name, even
+    /// if the two names are the same.
     NameTaken,
     /// The device that is to be inserted is already in a bucket.
     AlreadyPlaced,
-    /// The device whose weight is to be set is in no bucket.
+    /// The device whose weight a `Reweight` is to set is in no bucket.
     NotPlaced,
     /// The edit needs a device, and the named item is a bucket.
     NotADevice,
@@ -45,7 +49,7 @@ pub enum Refusal {
     WrongType,
     /// The bucket that the location leads to is the moved item itself, or is below it.
     Loop,
-    /// The two buckets to be swapped are the same one, or one is below the other.
+    /// The two buckets to be swapped are the same bucket, or one of them is below the other.
     Nested,
     /// The bucket that is to be removed holds items.
     NotEmpty,
@@ -53,15 +57,15 @@ pub enum Refusal {
     InUse,
     /// The item that is to be renamed is a device.
     NotDirectory,
-    /// The map has the new name and doesn't have the old one, as if the bucket had been renamed
-    /// before.
+    /// The map has an item with the new name, and no item with the old name. Perhaps the bucket was
+    /// renamed before.
     AlreadyRenamed,
     /// The map would have more than 4,096 buckets or more than 65,536 devices.
     NoRoom,
-    /// A bucket would weigh more than 4294967295 units, or all devices that are in buckets together
-    /// more than 8796093022207 units.
+    /// A bucket would weigh more than 4294967295 units, or all devices that are in buckets would
+    /// together weigh more than 8796093022207 units.
     SumTooLarge,
-    /// The device already has another class.
+    /// The device already has a class, which isn't the class that is to be set.
     ClassBound,
 }
 
@@ -165,7 +169,8 @@ impl Refusal {
         }
     }
 
-    /// Returns the number of the nearest Linux error, for example 2 for `ENOENT`.
+    /// Returns the number of the Linux error (`errno`) whose meaning is nearest to the refusal, for
+    /// example 2, which is `ENOENT`.
     pub fn error(self) -> u8
         ensures { result ≡ refusal_error self }
     {
@@ -229,7 +234,7 @@ pub struct Dones {
 /// Why an edit wasn't made: it is refused, or memory ran out. The map is then unchanged.
 #[derive(Clone, Copy, Debug, PartialEq, Eq, Error)]
 pub enum EditFault {
-    /// The edit is refused, for this reason.
+    /// The edit is refused for this reason.
     #[error("the edit is refused: {0}")]
     Refused(Refusal),
     /// Memory that the edit needs couldn't be allocated.

@@ -1,10 +1,11 @@
-//! CRUSH rules as a map's text says them, with buckets given by name.
+//! CRUSH rules in the form that they have in a map's text: a step `take` has the name of a bucket,
+//! and not its id.
 
 use crush_units::Name;
 use std::alloc::Global;
 
-/// A CRUSH rule: the steps by which Ceph chooses devices. The editor keeps rules and prints them,
-/// and never runs one.
+/// A CRUSH rule: the steps by which Ceph chooses devices. The editor only keeps and prints rules.
+/// It never chooses devices with them.
 #[derive(Debug, Drop)]
 pub struct Rule {
     /// The name of the rule.
@@ -26,8 +27,8 @@ pub struct Rule {
 /// A step of a rule.
 #[derive(Debug, Drop)]
 pub enum Step {
-    /// Starts from the bucket of this name. If a class is given, only the bucket's devices of that
-    /// class count.
+    /// The next steps choose items below the bucket with this name. If a class is given, only
+    /// devices of this class can be chosen.
     Take(Name<Global>, Option<Name<Global>>),
     /// Chooses items of a type.
     Choose {
@@ -36,13 +37,14 @@ pub enum Step {
         /// Whether the items after a failed item move up to fill its place (`firstn`), or all items
         /// keep their places (`indep`).
         firstn: bool,
-        /// How many items are chosen. If the number is 0 or below, the pool's size is added to it.
+        /// How many items the step chooses. If the number is 0 or below, Ceph adds the pool's size
+        /// to it.
         count: i32,
         /// The name of the type of the items.
         kind: Name<Global>,
     },
     /// Sets a parameter, whose name begins with `set_`, to a value of at most 2147483647.
     Set(Name<Global>, u32),
-    /// Ends a choice: outputs the devices chosen so far.
+    /// Outputs the items that the last steps have chosen, and so ends this choice.
     Emit,
 }

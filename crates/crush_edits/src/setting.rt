@@ -17,7 +17,8 @@ use rules::Rules;
 use std::alloc::{AllocError, Global};
 use std::marker::Model;
 
-/// A rule as a map keeps it, with buckets given by id, so that renaming a bucket changes no rule.
+/// A rule in the form in which a map keeps it. A step that takes a bucket has the bucket's id, and
+/// not its name. So no rule changes when a bucket is renamed.
 ///
 /// The fields mean the same as in `Rule`, and have the same limits.
 #[derive(Debug, Drop)]
@@ -30,11 +31,12 @@ pub struct KeptRule {
     pub steps: Vec<KeptStep>,
 }
 
-/// A step of a rule as a map keeps it. Except for `Take`, the variants are those of `Step`.
+/// A step of a rule, in the form in which a map keeps it. Except for `Take`, the variants are the
+/// same as those of `Step`.
 #[derive(Debug, Drop)]
 pub enum KeptStep {
-    /// Starts from the bucket of this id. If a class is given, only the bucket's devices of that
-    /// class count.
+    /// The next steps choose items below the bucket with this id. If a class is given, only devices
+    /// of this class can be chosen.
     Take(BucketId, Option<Name<Global>>),
     Choose {
         leaf: bool,
@@ -168,7 +170,8 @@ impl Setting {
     /// Adds a rule after the rules that the setting has.
     ///
     /// Fails if there is no memory for it; the setting is then unchanged. The cost grows with the
-    /// number of buckets that the rules take.
+    /// number of buckets that the rules of the setting take, because the set of these buckets is
+    /// copied.
     pub fn push_rule(&mut self, rule: KeptRule) -> Result<(), AllocError>
         ensures ok { OnOk result (self.new
             ≡ record self.old { rules = self.old.rules ++ rule_data rule ∷ [] }) }
@@ -178,14 +181,16 @@ impl Setting {
         Ok(())
     }
 
-    /// Returns the types as a map from numbers to names, in the order in which they were added.
+    /// Returns the name of each type by the type's number. The types are in the order in which they
+    /// were added.
     pub fn kinds(&self) -> &IndexMap<TypeId, Name<Global>>
         ensures { map kind_data result.now.entries ≡ self.now.kinds }
     {
         self.kinds.names()
     }
 
-    /// Returns the tunables as a map from names to values, in the order in which they were added.
+    /// Returns the value of each tunable by the tunable's name. The tunables are in the order in
+    /// which they were added.
     pub fn tunables(&self) -> &IndexMap<Name<Global>, u32>
         ensures { map tunable_data result.now.entries ≡ self.now.tunables }
     {
@@ -199,15 +204,15 @@ impl Setting {
         self.rules.as_slice()
     }
 
-    /// Returns the number of the type of this name, or `None` if there is no such type. If several
-    /// types have the name, returns the number of the first.
+    /// Returns the number of the type with this name, or `None` if there is no such type. If
+    /// several types have the name, returns the number of the first of them.
     pub fn kind_number(&self, name: &[u8]) -> Option<TypeId>
         ensures { result ≡ kind_number self.now name.now }
     {
         self.kinds.number(name)
     }
 
-    /// Returns the name of the type of this number, or `None` if there is no such type.
+    /// Returns the name of the type with this number, or `None` if there is no such type.
     pub fn kind_name(&self, number: TypeId) -> Option<&Name<Global>>
         ensures { option_copied result ≡ kind_name self.now number }
     {
@@ -238,8 +243,8 @@ impl Setting {
     }
 }
 
-/// Whether only type 0 may have this name. A map's text has parts that begin with such a word, so
-/// the word can't be the name of another type.
+/// Whether the name is reserved, so that only type 0 may have it. Some parts of a map's text begin
+/// with a reserved word, so a reserved word can't be the name of another type.
 pub fn is_reserved(name: &[u8]) -> bool
     ensures { result ≡ is_reserved_name name.now }
 {

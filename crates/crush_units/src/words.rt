@@ -51,7 +51,7 @@ fn is_word_byte(byte: u8) -> bool
     matches!(byte, b'0'..=b'9' | b'a'..=b'z') || is_name_byte(byte)
 }
 
-/// Returns the number of bytes, at the start of `bytes`, that are allowed in names.
+/// Returns the length of the longest prefix all of whose bytes are allowed in names.
 fn run_length(bytes: &[u8]) -> usize
     ensures count { result ≡ run_length bytes.now }
     ensures within { result ≤ length bytes.now }

@@ -3,17 +3,18 @@
 ghost use Rattle.crush_edits.specs.LawBatch.{BatchCounts, BatchStops};
 ghost use Rattle.crush_edits.specs.LawEdit.{EditKeeps, BatchKeeps, MadeAreBuckets};
 
-/// After an edit or a batch that isn't refused, the table is lawful, and the map's setting (its
-/// types, tunables and rules) fits the table. Each edit except for a removal returns how many
-/// buckets it added.
+/// If a table is lawful, and the map's setting (its types, tunables and rules) fits the table, then
+/// both are still true after any valid edit or batch that isn't refused. The result of such an
+/// edit, unless it is a `Remove`, says how many buckets the edit has added to the table.
 pub fn edits_keep_lawful()
     ensures edit { EditKeeps }
     ensures batch { BatchKeeps }
     ensures made { MadeAreBuckets }
 {}
 
-/// A batch that isn't refused returns the number of its edits. A batch that is refused returns the
-/// index of one of its edits.
+/// If a batch isn't refused, its result counts all edits of the batch, and the count of the edits
+/// that changed the table isn't greater. If a batch is refused, its result has the index of one of
+/// its edits.
 pub fn batches_count_their_edits()
     ensures counts { BatchCounts }
     ensures stops { BatchStops }

@@ -1,10 +1,17 @@
-//! Laws of *puts*. A put places an item in the bucket that a location leads to, and first creates
-//! the buckets on the way (the *route*) that the map doesn't have.
+//! Laws about *puts*. A put places an item into the bucket that the first *stop* of a location
+//! names. The stops are the location's pairs, in ascending order of their types' numbers. The first
+//! stops may name buckets that the map doesn't have. The put then creates these buckets, each
+//! inside the next. The uppermost created bucket is put into the bucket that the next stop names.
+//! If there is no next stop, it becomes a root. A list of stops along which an item can be put is a
+//! *route*.
 
 ghost use Rattle.crush_edits.specs.LawPut.{RoomForNew, RoomForNewDevice, PutMoves, PutMovesDevice, PutsNew, PutTakes, PutsBoxed, PutsBoxedDevice, PutsBoxedNew, PutKeepsLawful, PutNewKeepsLawful, PutCounts, PutNewCounts, PutChanges, PutNewChanges, PutFits, NoneNew, PutMovesOnly, NextStays, FormStays, EditedIsOwn, FullOfDevices, FullOfBuckets};
 
-/// Creating the new buckets, detaching the item and attaching it gives the table of the put, in
-/// whichever order the first two of these steps are done.
+/// The code puts an item in three steps: it creates the new buckets, detaches the item, and
+/// attaches the item again. The result is the table of the put, except for the order of the rows.
+/// The first two steps may be done in either order. The code can also test the sums of weights in
+/// one step: if the new buckets are attached with the item already in them, the sums are too large
+/// if and only if they are too large after the put.
 pub fn puts_are_steps()
     ensures moves { PutMoves }
     ensures device { PutMovesDevice }
@@ -16,7 +23,8 @@ pub fn puts_are_steps()
 {}
 
 /// If sums and counts stay in range, a put keeps the table lawful. If the map's setting (its types,
-/// tunables and rules) has the type of the item, the setting still fits the table.
+/// tunables and rules) fits the table before and has the type of the item, then it also fits the
+/// table afterwards.
 pub fn puts_keep_lawful()
     ensures lawful { PutKeepsLawful }
     ensures lawful_new { PutNewKeepsLawful }
@@ -27,8 +35,8 @@ pub fn puts_keep_lawful()
     ensures fits { PutFits }
 {}
 
-/// What one step of a put guarantees to the next step: which bucket receives the item, and the
-/// item's row.
+/// Facts that connect the steps of a put: into which bucket the item is put, and which row the item
+/// has.
 pub fn steps_fit_together()
     ensures none_new { NoneNew }
     ensures only { PutMovesOnly }
@@ -37,15 +45,17 @@ pub fn steps_fit_together()
     ensures own { EditedIsOwn }
 {}
 
-/// A put changes the table, unless the item is already in the bucket of the location's pair with
+/// A put changes the table, unless the item is already in the bucket of the first stop, which has
 /// the lowest type.
 pub fn puts_make_another_table()
     ensures there { PutChanges }
     ensures new { PutNewChanges }
 {}
 
-/// If a table has as many devices or buckets as are allowed, an edit that adds one more is refused
-/// with `NoRoom`.
+/// If a table has as many devices as are allowed, an edit that inserts a further device is refused
+/// with `NoRoom`. The edit is also refused with `NoRoom` if the table would have too many buckets
+/// with the new buckets of the edit's route. Both laws require that there is no other reason with a
+/// lower number to refuse the edit.
 pub fn full_tables_refuse()
     ensures devices { FullOfDevices }
     ensures buckets { FullOfBuckets }

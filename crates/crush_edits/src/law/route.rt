@@ -1,17 +1,21 @@
-//! Laws of routes and of the buckets that they create. A route is the list of the stops that a
-//! location leads to.
+//! Laws about routes and about the buckets that they create. The *stops* of a location are its
+//! pairs of known types. A *route* is a list of valid stops along which an item can be put.
 
 ghost use Rattle.crush_edits.specs.LawRoute.{StopsStep, StopsRise, StopsArePairs, LocationIsRoute, OtherIsNoStop, RouteIsFresh, RouteLeads, BoxesAreRows, NewKeepsLawful, NewKeepsSums};
 
-/// The stops of a location are its pairs of known types, by ascending type number.
+/// The stops of a location are its pairs of known types, in ascending order of their types'
+/// numbers.
 pub fn stops_are_pairs_in_order()
     ensures step { StopsStep }
     ensures rise { StopsRise }
     ensures pairs { StopsArePairs }
 {}
 
-/// If a location passes the tests of an edit and doesn't lead to a device, its stops are a route.
-/// Each route leads to the bucket that the item is put into.
+/// Suppose that the map's setting fits the table, that a valid location passes its tests, and that
+/// the first stop that names an item of the table doesn't name a device. Then the stops of the
+/// location are a route. Each stop has the name of a bucket of the location. In a lawful table, no
+/// item has the id or the name of a bucket that a route creates. For each route, there is a bucket
+/// into which the item is put.
 pub fn locations_are_routes()
     ensures route { LocationIsRoute }
     ensures other { OtherIsNoStop }
@@ -19,8 +23,9 @@ pub fn locations_are_routes()
     ensures leads { RouteLeads }
 {}
 
-/// The new buckets of a route, nested in one another in the tree, have the rows that the put adds
-/// to the table. These rows keep the table lawful if there is room for them, and change no sum.
+/// In the tree, the new buckets of a route are nested, each inside the next. These nested buckets
+/// have the rows that the put adds to the table. A lawful table with these rows stays lawful, if it
+/// doesn't have too many items then. These rows change no sum of weights.
 pub fn new_buckets_are_boxes()
     ensures boxes { BoxesAreRows }
     ensures lawful { NewKeepsLawful }

@@ -1,4 +1,4 @@
-//! The types of a setting, which are found by number and by name.
+//! The types of a setting, with look-ups of a type by its number and by its name.
 
 ghost use Rattle.std.specs.Prelude.{◌≡◌, ◌∷◌, [], ◌++◌, map, None, OnOk, OnErr, IfOk};
 ghost use Rattle.std.specs.Option.{option_copied};
@@ -14,8 +14,8 @@ use std::marker::Model;
 
 /// The types, in the order in which they were added, with an index of their names.
 ///
-/// The index is a sorted map and not a hash map, so that no choice of names in an untrusted map
-/// makes look-ups slow.
+/// The index is a sorted tree and not a hash table, so that no choice of names in an untrusted
+/// CRUSH map makes look-ups slow.
 #[derive(Debug, Drop)]
 pub(super) struct Kinds {
     names: IndexMap<TypeId, Name<Global>>,
@@ -102,8 +102,9 @@ impl Kinds {
     }
 }
 
-/// Records the number of the name in the index, unless the name already has a number. So of several
-/// types that have the same name, the first counts.
+/// Records the number of the name in the index, unless the index already has a number for the name.
+/// So if several types have the same name, the index has the number of the first of them. After an
+/// error, the index has the same numbers as before.
 fn tell_first(
     numbers: &mut BTreeMap<Vec<u8>, TypeId>,
     name: Vec<u8>,

@@ -14,7 +14,7 @@ use std::marker::Model;
 
 /// The rules, in the order in which they were added, and the buckets that they take.
 ///
-/// `taken` has the id of each bucket that a rule takes, as the id's distance below 0.
+/// `taken` has, for each bucket that a rule takes, the distance of the bucket's id below 0.
 #[derive(Debug, Drop)]
 pub(super) struct Rules {
     rules: Vec<KeptRule>,
@@ -52,7 +52,8 @@ impl Rules {
         ensures ok { OnOk result (self.new ≡ self.old ++ rule_data rule ∷ []) }
         ensures err { OnErr result (self.new ≡ self.old) }
     {
-        // The rule's buckets are added to a copy, so that an error changes nothing.
+        // The buckets that the rule takes are added to a copy of the set, so that an error changes
+        // nothing.
         let mut taken = self.taken.clone()?;
         take_all(&mut taken, &rule.steps)?;
         self.rules.push(rule)?;
@@ -82,8 +83,8 @@ impl Rules {
     }
 }
 
-/// Adds the buckets that the steps take to the set. After an error, some of these buckets may be
-/// missing in the set.
+/// Adds the buckets that the steps take to the set. Fails if memory runs out; the set may then have
+/// only some of these buckets.
 fn take_all(taken: &mut BTreeSet<u32>, steps: &[KeptStep]) -> Result<(), AllocError>
     ensures { OnOk result (ComeAsTaken steps.now taken.old taken.new) }
 {
