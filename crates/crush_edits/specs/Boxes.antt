@@ -1,4 +1,4 @@
--- New buckets as nested items, each inside the next, as a forest stores them.
+-- New buckets as nested items, each inside the next. A forest stores new buckets in this form.
 use Rattle.std.specs.Prelude.{ℕ, List, [], ◌∷◌, ◌++◌}
 use Rattle.crush_model.specs.Items.{Items, none, bucket}
 use Rattle.crush_model.specs.Stored.{weight_sum}

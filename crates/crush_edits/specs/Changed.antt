@@ -1,4 +1,4 @@
--- Whether two tables are the same, row by row.
+-- Whether two tables are equal, row by row. (The relation Same of crush_model also relates tables whose rows are in different orders.)
 use Rattle.std.specs.Prelude.{List, Bool, ◌==◌, ◌&&◌, bytes_eq, nat_eq}
 use Rattle.std.specs.Option.{option_eq}
 use lib.Pointwise.{pointwise}
@@ -7,7 +7,7 @@ use Rattle.crush_units.specs.Alg.{same_alg}
 use Rattle.crush_model.specs.Items.{ShadowData}
 use Rattle.crush_model.specs.Table.{Row}
 
--- whether two class ids of buckets have the same id and the same class
+-- whether two class ids are equal: both have the same id and the same class
 abbrev pub same_class : ShadowData → ShadowData → Bool
 same_class a b = (a.id == b.id) && bytes_eq a.class b.class
 

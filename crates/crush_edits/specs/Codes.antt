@@ -1,4 +1,4 @@
--- Encodings of a setting and its parts as values of plain types, from which the setting can be decoded again.
+-- Encodings of a setting and of its parts as values of plain types. Each encoding can be decoded to the same value again.
 use Rattle.std.specs.Coded.{Coded, code_by, coded×, coded_ℕ, coded_ℤ, coded_bool, coded_list, coded_option}
 use Rattle.std.specs.Prelude.{refl, ◌≡◌, ℕ, ℤ, pos, List, [], Option, None, Bool, false, ◌==◌, if◌then◌else◌}
 use Rattle.crush_edits.specs.Setting.{KindData, TunableData, StepData, take, choose, set, emit, RuleData, SettingData}
@@ -11,7 +11,7 @@ coded_kind = code_by (ℕ × List ℕ) (coded× coded_ℕ (coded_list coded_ℕ)
 abbrev pub coded_tunable : Coded TunableData
 coded_tunable = code_by (List ℕ × ℕ) (coded× (coded_list coded_ℕ) coded_ℕ) (λ k. (k.name, k.value)) (λ p. record { name = p.0; value = p.1 }) (λ _. refl)
 
--- the plain type of steps: which of the four variants it is, a number, a name, a class if there is one, two flags and a count; a variant leaves the parts that it doesn't need at 0, empty, none or false
+-- the plain type of encoded steps. Its parts are: which of the four variants the step is, a number, a name, a class or none, two flags and a count. A part that a variant doesn't need is 0, empty, none or false
 abbrev pub StepParts : Type 0
 StepParts = ℕ × (ℕ × (List ℕ × (Option (List ℕ) × (Bool × (Bool × ℤ)))))
 

@@ -13,7 +13,7 @@ use Rattle.crush_edits.specs.Naming.{after_swap, swap_tests, after_rename, renam
 use Rattle.crush_edits.specs.Classing.{after_set_class, set_class_tests, after_remove_class, remove_class_tests}
 use Rattle.crush_edits.specs.Making.{after_remove, remove_tests, after_add_bucket, add_bucket_tests}
 
--- THE TABLE AFTER the edit, with the number of buckets that it created, if the edit isn't refused
+-- THE TABLE AFTER the edit, with the number of buckets that the edit creates, if the edit isn't refused
 abbrev pub after : SettingData → List Row → Edit → After
 after s t (Place Insert d n w l) = after_insert s t d n w l
 after s t (Place CreateOrMove d n w l) = after_create_or_move s t d n w l
@@ -28,7 +28,7 @@ after s t (Rename from to) = after_rename t from to
 after s t (SetClass n c) = after_set_class t n c
 after s t (RemoveClass n) = after_remove_class t n
 
--- THE REFUSALS of an edit, each with its test: the first whose test holds is reported; the tests for room and sums are of a, the table after the edit
+-- THE REFUSALS of an edit, each with its test. The edit is refused with the first refusal whose test holds. The tests of NoRoom and SumTooLarge examine the table in a, which is the table as it would be after the edit
 abbrev pub tests : SettingData → List Row → Edit → After → List (Refusal × Bool)
 tests s t (Place Insert d n w l) a = insert_tests s t d n w l a
 tests s t (Place CreateOrMove d n w l) a = device_put_tests s t d n w l a
@@ -43,15 +43,15 @@ tests s t (Rename from to) a = rename_tests t from to
 tests s t (SetClass n c) a = set_class_tests t n c
 tests s t (RemoveClass n) a = remove_class_tests t n
 
--- the refusal of an edit, or none if the edit is not refused
+-- the refusal with which an edit is refused, or none if the edit isn't refused
 abbrev pub refusal : SettingData → List Row → Edit → Option Refusal
 refusal s t e = first_refusal (tests s t e (after s t e))
 
--- THE EDIT: what the edit e gives for the setting s and the table t
+-- THE EDIT: the result of the edit e for the setting s and the table t
 abbrev pub edit : SettingData → List Row → Edit → Answer
 edit s t e = answer (refusal s t e) t (after s t e)
 
--- whether the edit by itself, without what a batch keeps to undo it, may need new memory; setting weights, swapping buckets, and removing an item or a class need none
+-- whether the edit may need new memory. The memory with which a batch can undo the edit isn't counted. Setting weights, swapping buckets, and removing an item or a class need no new memory
 abbrev pub takes_memory : Edit → Bool
 takes_memory (Reweight n w) = false
 takes_memory (ReweightSubtree n w) = false
@@ -64,7 +64,7 @@ takes_memory (Rename from to) = true
 takes_memory (SetClass n c) = true
 takes_memory (RemoveClass n) = false
 
--- whether the edit only ever sets weights of devices, and moves nothing
+-- whether the edit can change nothing except weights of devices
 abbrev pub sets_weights : Edit → Bool
 sets_weights (Reweight n w) = true
 sets_weights (ReweightSubtree n w) = true

@@ -1,4 +1,4 @@
--- The text of an edit: its command in a script.
+-- The text of an edit, which is the command that makes the edit in a script.
 use Rattle.std.specs.Prelude.{ℕ, List, ◌++◌, codes, flat_map}
 use Rattle.crush_units.specs.Weight.{weight_text}
 use Rattle.crush_edits.specs.declared.location.Pair.{Pair}
@@ -19,7 +19,7 @@ pair_text p = codes " " ++ p.kind ++ codes "=" ++ p.name
 abbrev pub pairs_text : List Pair → List ℕ
 pairs_text at = flat_map pair_text at
 
--- a command's first word, and a name after a space
+-- a command's first word, a space and a name
 abbrev pub one_name : List ℕ → List ℕ → List ℕ
 one_name first name = first ++ codes " " ++ name
 
@@ -31,7 +31,7 @@ two_names first a b = first ++ codes " " ++ a ++ codes " " ++ b
 abbrev pub name_and_weight : List ℕ → List ℕ → ℕ → List ℕ
 name_and_weight first name weight = first ++ codes " " ++ name ++ codes " " ++ weight_text weight
 
--- AN EDIT as its command in a script
+-- AN EDIT as the command that makes it in a script
 abbrev pub edit_text : Edit → List ℕ
 edit_text (Place how device name weight at) = name_and_weight (keyword_word (key.Place how)) name weight ++ pairs_text at
 edit_text (Move name at) = one_name (keyword_word key.Move) name ++ pairs_text at

@@ -7,11 +7,11 @@ use Rattle.crush_model.specs.Table.{Row, is_there}
 use Rattle.crush_edits.specs.Setting.{KindData, TunableData, StepData, take, choose, set, emit, RuleData, SettingData, kind_number, taken_buckets}
 use Rattle.crush_units.specs.declared.limits.TheConstants.{LARGEST_COUNT, LARGEST_RULE_NUMBER, LARGEST_TUNABLE, LAST_TYPE, MOST_RULES, MOST_STEPS, MOST_TUNABLES, MOST_TYPES}
 
--- whether the name is a word that begins a statement of a map's text, or a part of one; no type of buckets may have such a name
+-- whether the name is reserved, because a statement of a map's text, or a part of a statement, begins with this word. No type of buckets may have a reserved name
 abbrev pub is_reserved : List ℕ → Bool
 is_reserved n = list_any (λ word. bytes_eq word n) (codes "tunable" ∷ (codes "device" ∷ (codes "type" ∷ (codes "rule" ∷ (codes "class" ∷ (codes "choose_args" ∷ []))))))
 
--- a valid type: its number is in range, its name is a name, and unless its number is 0 the name isn't reserved
+-- a valid type: its number is in range, its name is a valid name, and the name isn't reserved unless the number is 0
 pub record IsKind (k : KindData) : Type 0 where
   pub number : k.number ≤ LAST_TYPE
   pub name : IsName k.name
@@ -27,7 +27,7 @@ abbrev pub IsCount : ℤ → Type 0
 IsCount (pos n) = n ≤ LARGEST_COUNT
 IsCount (negsuc n) = n ≤ LARGEST_COUNT
 
--- a valid step that chooses: its count is in range, and the setting has a type of the name kind, which may be type 0
+-- a valid step that chooses: its count is in range, and the setting has a type with the name kind. This may also be type 0
 pub record IsChoice (s : SettingData) (count : ℤ) (kind : List ℕ) : Type 0 where
   pub range : IsCount count
   pub known : is_some (kind_number s kind) ≡ true
@@ -38,14 +38,14 @@ pub record IsSet (word : List ℕ) (value : ℕ) : Type 0 where
   pub sets : starts_with nat_eq word (codes "set_") ≡ true
   pub range : value ≤ LARGEST_RULE_NUMBER
 
--- a valid step; the class of a step that takes a bucket is a name, if it has one
+-- a valid step. If a step that takes a bucket has a class, the class is a valid name
 abbrev pub IsStep : SettingData → StepData → Type 0
 IsStep s (take b class) = IfSome class IsName
 IsStep s (choose leaf firstn count kind) = IsChoice s count kind
 IsStep s (set word value) = IsSet word value
 IsStep s emit = Unit {0}
 
--- a valid rule: its name and its kind are names, its numbers are in range, and its steps are valid and at most MOST_STEPS
+-- a valid rule: its name and its kind are names, its numbers are in range, its steps are valid, and there are at most MOST_STEPS steps
 pub record IsRule (s : SettingData) (r : RuleData) : Type 0 where
   pub name : IsName r.name
   pub id : r.id ≤ LARGEST_RULE_NUMBER
@@ -55,7 +55,7 @@ pub record IsRule (s : SettingData) (r : RuleData) : Type 0 where
   pub few : length r.steps ≤ MOST_STEPS
   pub steps : All (IsStep s) r.steps
 
--- a valid setting: no two types have the same number or name, no two tunables the same name, and no two rules the same name or id; all of them are valid, and there are not too many
+-- a valid setting: no two types have the same number or the same name, no two tunables have the same name, and no two rules have the same name or the same id. All types, tunables and rules are valid, and there are not too many of them
 pub record IsSetting (s : SettingData) : Type 0 where
   pub numbers : (n : ℕ) → count_by (λ (k : KindData). k.number == n) s.kinds ≤ 1
   pub names : (n : List ℕ) → count_by (λ (k : KindData). bytes_eq k.name n) s.kinds ≤ 1
@@ -69,7 +69,7 @@ pub record IsSetting (s : SettingData) : Type 0 where
   pub few_tunables : length s.tunables ≤ MOST_TUNABLES
   pub few_rules : length s.rules ≤ MOST_RULES
 
--- the setting has a type of the row's type number; type 0, which devices have, need not be declared
+-- the setting has a type with the row's type number. Type 0, which is the type of devices, need not be in the setting
 abbrev pub HasKind : SettingData → Row → Type 0
 HasKind s r = (0 < r.kind) → list_any (λ (k : KindData). k.number == r.kind) s.kinds ≡ true
 

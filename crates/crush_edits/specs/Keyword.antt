@@ -1,4 +1,4 @@
--- The words and the forms of the commands that make edits.
+-- The commands of a script that make edits: the first word of each command, and the form of its line.
 use Rattle.std.specs.Prelude.{ℕ, List, ◌||◌, Option, Some, None, codes, bytes_eq, if◌then◌else◌}
 use Rattle.crush_edits.specs.declared.edit.Edit.{Edit}
 use Rattle.crush_edits.specs.declared.edit.Edit.TheVariants.{Place, Move, Swap, Reweight, ReweightSubtree, Remove, AddBucket, Rename, SetClass, RemoveClass}
@@ -7,7 +7,7 @@ use Rattle.crush_edits.specs.declared.edit.Placing.TheVariants.{Insert, CreateOr
 use Rattle.crush_edits.specs.declared.keyword.Keyword.{Keyword}
 use Rattle.crush_edits.specs.declared.keyword.Keyword.TheVariants as key
 
--- the command that a word names, if it names one
+-- the kind of the commands that begin with this word, or none if no command that makes an edit begins with it
 unfoldable pub keyword_of : List ℕ → Option Keyword
 keyword_of first =
     if bytes_eq first (codes "add") then Some (key.Place Insert)
@@ -24,12 +24,13 @@ keyword_of first =
     else if bytes_eq first (codes "rm-device-class") then Some key.RmDeviceClass
     else None
 
--- the word of a command; of the two words of `rm` it is `rm`
+-- the first word of the command that places a device in this way
 abbrev pub placing_word : Placing → List ℕ
 placing_word Insert = codes "add"
 placing_word CreateOrMove = codes "create-or-move"
 placing_word Update = codes "set"
 
+-- the first word of the commands of a kind. A command of the kind Rm may begin with `rm` or `remove`; this definition gives `rm`
 abbrev pub keyword_word : Keyword → List ℕ
 keyword_word (key.Place how) = placing_word how
 keyword_word key.Move = codes "move"
@@ -42,12 +43,13 @@ keyword_word key.RenameBucket = codes "rename-bucket"
 keyword_word key.SetDeviceClass = codes "set-device-class"
 keyword_word key.RmDeviceClass = codes "rm-device-class"
 
--- the form of a command's lines
+-- the form of the line of the command that places a device in this way
 abbrev pub placing_form : Placing → List ℕ
 placing_form Insert = codes "add osd.N WEIGHT TYPE=NAME .."
 placing_form CreateOrMove = codes "create-or-move osd.N WEIGHT TYPE=NAME .."
 placing_form Update = codes "set osd.N WEIGHT TYPE=NAME .."
 
+-- the form of the line of a command of this kind
 abbrev pub keyword_form : Keyword → List ℕ
 keyword_form (key.Place how) = placing_form how
 keyword_form key.Move = codes "move NAME TYPE=NAME .."
@@ -60,7 +62,7 @@ keyword_form key.RenameBucket = codes "rename-bucket FROM TO"
 keyword_form key.SetDeviceClass = codes "set-device-class CLASS NAME"
 keyword_form key.RmDeviceClass = codes "rm-device-class NAME"
 
--- the command with which a script writes an edit
+-- the kind of the command that makes an edit in a script
 abbrev pub edit_keyword : Edit → Keyword
 edit_keyword (Place how device name weight at) = key.Place how
 edit_keyword (Move name at) = key.Move

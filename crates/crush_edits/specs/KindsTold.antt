@@ -10,15 +10,15 @@ use Rattle.crush_edits.specs.Setting.{KindData, first_number}
 abbrev pub number_told : {Z : Type 0} → BTreeMap (Vec ℕ Z) ℕ → List ℕ → Option ℕ
 number_told numbers n = get_by (λ k. slice_cmp nat_cmp n k.items) numbers
 
--- THE INDEX IS RIGHT: for each name it has the number of the first type of this name, and it has nothing for a name that no type has
+-- THE INDEX IS RIGHT: for each name, it has the number of the first type with this name. For a name that no type has, it has no number
 abbrev pub AreNumbersOf : {Z : Type 0} → List KindData → BTreeMap (Vec ℕ Z) ℕ → Type 0
 AreNumbersOf kinds numbers = (n : List ℕ) → number_told numbers n ≡ first_number kinds n
 
--- the new index has for each name what the old one has
+-- for each name, both indexes have the same number, or neither has one
 abbrev pub TellsSameNumbers : {Z : Type 0} → BTreeMap (Vec ℕ Z) ℕ → BTreeMap (Vec ℕ Z) ℕ → Type 0
 TellsSameNumbers old new = (n : List ℕ) → number_told new n ≡ number_told old n
 
--- the new index has for each name what the old one has; if that is nothing for the name given here, the new one has the given number for it
+-- for each name, the new index has the same number as the old index, or neither has one. There is one exception: if the old index has no number for the given name, the new index has the given number for it
 abbrev pub TellsFirst : {Z : Type 0} → BTreeMap (Vec ℕ Z) ℕ → BTreeMap (Vec ℕ Z) ℕ → List ℕ → ℕ → Type 0
 TellsFirst old new name number =
     (n : List ℕ) → number_told new n ≡ option_or (number_told old n) (if bytes_eq name n then Some number else None)

@@ -1,4 +1,4 @@
--- Laws of batches.
+-- Laws about batches.
 use Rattle.std.specs.Prelude.{◌≡◌, ℕ, ◌<◌, ◌≤◌, List, length}
 use Rattle.crush_model.specs.Table.{Row}
 use Rattle.crush_edits.specs.declared.refusal.Refusal.{Refusal}
@@ -7,7 +7,7 @@ use Rattle.crush_edits.specs.declared.edit.Edit.{Edit}
 use Rattle.crush_edits.specs.Setting.{SettingData}
 use Rattle.crush_edits.specs.Batch.{batch_refused, batch_done, batch}
 
--- a batch that isn't refused counts all of its edits, and counts at most as many that changed the table
+-- if a batch isn't refused, it counts all of its edits, and its count of the edits that changed the table isn't greater
 abbrev pub BatchCounts : Type 0
 BatchCounts = (s : SettingData) (t u : List Row) (es : List Edit) (d : Dones) → batch s t es ≡ batch_done d u → (d.edits ≡ length es) × (d.changed ≤ length es)
 

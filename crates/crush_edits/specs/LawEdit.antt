@@ -1,4 +1,4 @@
--- The laws of all edits: an edit or a batch that isn't refused leaves a lawful table that the setting fits.
+-- Laws about all edits and batches. If the table is lawful and the setting fits it, then both are still true after a valid edit or batch that isn't refused.
 use Rattle.std.specs.Prelude.{◌≡◌, ℕ, ◌<◌, List, None, All, ◌+◌, Bool, true, false}
 use Rattle.crush_units.specs.Name.{IsName}
 use Rattle.crush_model.specs.Table.{Row, bucket_count}
@@ -20,7 +20,7 @@ pub record IsPlacing (d : ℕ) (n : List ℕ) (l : List Pair) : Type 0 where
   pub name : IsName n
   pub at : IsLocation l
 
--- an edit is valid in the parts that its types in the code guarantee: the device, the location, and the names and classes that it gives to items
+-- an edit is valid: its device, its location, and the names and classes that it gives to items are valid. In the code, the types of an edit's fields ensure this
 abbrev pub IsEdit : Edit → Type 0
 IsEdit (Place how d n w l) = IsPlacing d n l
 IsEdit (Move n l) = IsLocation l
@@ -51,6 +51,6 @@ abbrev pub is_remove : Edit → Bool
 is_remove (Remove n) = true
 is_remove _ = false
 
--- MADE: after any valid edit except Remove that isn't refused, the number of buckets in the table has grown by the number of buckets that the edit reports to have created
+-- MADE: after any valid edit except Remove that isn't refused, the number of buckets in the table has grown by the number that the edit's result has as the number of created buckets
 abbrev pub MadeAreBuckets : Type 0
 MadeAreBuckets = (s : SettingData) (t : List Row) (e : Edit) → Keeps s t → IsEdit e → refusal s t e ≡ None → is_remove e ≡ false → bucket_count (after s t e).table ≡ bucket_count t + (after s t e).made

@@ -1,4 +1,4 @@
--- Laws of refusals: their numbers, and which one is reported if several hold.
+-- Laws about refusals: their numbers, and for which reason an edit is refused if there are several reasons.
 use Rattle.std.specs.Prelude.{◌≡◌, ℕ, Bool, ◌-◌, ◌≤◌, List, [], ◌∷◌, ◌++◌, Some, None, true, false, All, map, codes}
 use Rattle.std.specs.List.{slice_get}
 use Rattle.std.specs.List.Sorted.{IsStrictlyIncreasing}
@@ -10,13 +10,13 @@ use Rattle.crush_edits.specs.Refusal.{refusal_number, refusal_name, refusal_erro
 use Rattle.crush_edits.specs.Answer.{After, first_refusal}
 use Rattle.crush_edits.specs.Edit.{after, tests, refusal}
 
--- a row of the table of refusals: number, name, number of the Linux error
+-- a row of the table of refusals: the refusal's number, its name, and the number of its Linux error
 pub record RefusalRow : Type 0 where
   pub number : ℕ
   pub name : List ℕ
   pub error : ℕ
 
--- a row with these three columns
+-- the row with this number, this name and this Linux error
 abbrev pub no : ℕ → List ℕ → ℕ → RefusalRow
 no number name error = record { number = number; name = name; error = error }
 
@@ -28,7 +28,7 @@ refusal_rows =
     ∷ (no 11 (codes "NotABucket") 22 ∷ (no 12 (codes "WrongType") 22 ∷ (no 13 (codes "Loop") 40 ∷ (no 14 (codes "Nested") 22 ∷ (no 15 (codes "NotEmpty") 39
     ∷ (no 16 (codes "InUse") 16 ∷ (no 17 (codes "NotDirectory") 20 ∷ (no 18 (codes "AlreadyRenamed") 114 ∷ (no 19 (codes "NoRoom") 28 ∷ (no 20 (codes "SumTooLarge") 34 ∷ (no 21 (codes "ClassBound") 16 ∷ []))))))))))))))))))))
 
--- the row that a refusal should have
+-- the row that a refusal has to have in the table
 abbrev pub row_of_refusal : Refusal → RefusalRow
 row_of_refusal r = no (refusal_number r) (refusal_name r) (refusal_error r)
 
@@ -36,15 +36,15 @@ row_of_refusal r = no (refusal_number r) (refusal_name r) (refusal_error r)
 abbrev pub RowsAreRefusals : Type 0
 RowsAreRefusals = (r : Refusal) → slice_get refusal_rows (refusal_number r - 1) ≡ Some (row_of_refusal r)
 
--- the tests of each edit are in strictly increasing order of the refusals' numbers
+-- the refusals in the list of an edit's tests are in strictly increasing order of their numbers
 abbrev pub TestsRise : Type 0
 TestsRise = (s : SettingData) (t : List Row) (e : Edit) (a : After) → IsStrictlyIncreasing (map (λ p. refusal_number p.0) (tests s t e a))
 
--- the refusal that an edit reports has the least number of all refusals whose tests hold
+-- if an edit is refused, its refusal has the least number of all refusals whose tests hold
 abbrev pub LeastIsTold : Type 0
 LeastIsTold = (s : SettingData) (t : List Row) (e : Edit) (r : Refusal) → refusal s t e ≡ Some r → All (λ p. p.1 ≡ true → refusal_number r ≤ refusal_number p.0) (tests s t e (after s t e))
 
--- if an edit reports no refusal, then no test of it holds
+-- if an edit isn't refused, then none of its tests holds
 abbrev pub NoneIsTold : Type 0
 NoneIsTold = (s : SettingData) (t : List Row) (e : Edit) → refusal s t e ≡ None → All (λ p. p.1 ≡ false) (tests s t e (after s t e))
 
@@ -52,10 +52,10 @@ NoneIsTold = (s : SettingData) (t : List Row) (e : Edit) → refusal s t e ≡ N
 abbrev pub NothingIsTold : Type 0
 NothingIsTold = (ps : List (Refusal × Bool)) → All (λ p. p.1 ≡ false) ps → first_refusal ps ≡ None
 
--- if the first of two lists of tests gives no refusal, then both together give what the second gives
+-- if the first of two lists of tests gives no refusal, then both lists together give the same result as the second list
 abbrev pub GroupPasses : Type 0
 GroupPasses = (ps qs : List (Refusal × Bool)) → first_refusal ps ≡ None → first_refusal (ps ++ qs) ≡ first_refusal qs
 
--- if the first of two lists of tests gives a refusal, then both together give the same one
+-- if the first of two lists of tests gives a refusal, then both lists together give the same refusal
 abbrev pub GroupRefuses : Type 0
 GroupRefuses = (ps qs : List (Refusal × Bool)) (r : Refusal) → first_refusal ps ≡ Some r → first_refusal (ps ++ qs) ≡ Some r

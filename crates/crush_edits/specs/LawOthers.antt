@@ -1,4 +1,4 @@
--- Laws of the edits without a location: when they change the table, when the table after them is lawful, and that the setting still fits it.
+-- Laws about the edits without a location: when an edit changes the table, when the table after it is lawful, and when the setting still fits this table.
 use Rattle.std.specs.Prelude.{◌≡◌, ℕ, ◌+◌, ◌≤◌, List, [], ◌∷◌, ◌++◌, Option, Some, None, Bool, true, false, not, ◌==◌, ◌||◌, bytes_eq}
 use Rattle.std.specs.List.{list_all}
 use Rattle.std.specs.Option.{option_eq}
@@ -21,11 +21,11 @@ use Rattle.crush_edits.specs.Answer.{meets}
 use Rattle.crush_edits.specs.Making.{holds_items, is_taken_by_rule, after_add_bucket}
 use Rattle.crush_units.specs.declared.limits.TheConstants.{MOST_BUCKETS}
 
--- WEIGHTS: setting the weight w in all rows that are selected leaves the table as it is if and only if each of these rows has this weight already
+-- WEIGHTS: setting the weight w in all selected rows leaves the table unchanged if and only if each of these rows already has this weight
 abbrev pub WeightsChange : Type 0
 WeightsChange = (which : Row → Bool) (w : ℕ) (t : List Row) → same_table t (set_weights which w t) ≡ list_all (λ (r : Row). not (which r) || (r.weight == w)) t
 
--- setting an item's weight to w leaves a lawful table as it is if and only if the item has this weight already
+-- setting the weight of an item to w leaves a lawful table unchanged if and only if the item's row already has this weight
 abbrev pub WeightChanges : Type 0
 WeightChanges = (t : List Row) (i : ItemId) (w v : ℕ) → Lawful t → own_weight_of t i ≡ Some v → same_table t (set_weight i w t) ≡ (v == w)
 
@@ -41,7 +41,7 @@ NameChanges = (t : List Row) (i : ItemId) (n : List ℕ) → Lawful t → is_the
 abbrev pub NameFits : Type 0
 NameFits = (s : SettingData) (t : List Row) (i : ItemId) (n : List ℕ) → Fits s t → Fits s (set_name i n t)
 
--- CLASSES: setting an item's class, or removing it, leaves a lawful table as it is if and only if the item has that class, or none, already
+-- CLASSES: setting or removing the class of an item leaves a lawful table unchanged if and only if the item already has the class that is set, or already has no class
 abbrev pub ClassChanges : Type 0
 ClassChanges = (t : List Row) (i : ItemId) (c : Option (List ℕ)) → Lawful t → is_there t i ≡ true → same_table t (set_class i c t) ≡ option_eq bytes_eq (class_of t i) c
 
@@ -69,7 +69,7 @@ RemoveKeepsLawful = (t : List Row) (i : ItemId) → Lawful t → meets (holds_it
 abbrev pub RemoveFits : Type 0
 RemoveFits = (s : SettingData) (t : List Row) (i : ItemId) → Fits s t → meets (is_taken_by_rule s) (number_of i) ≡ false → Fits s (without_row i t)
 
--- ADDITIONS: adding a bucket of a known type appends one row: a bucket with the first free id and without a parent
+-- ADDITIONS: adding a bucket of a known type appends one row to the table: the row of a bucket with the first free id and without a parent
 abbrev pub AddedIsRow : Type 0
 AddedIsRow = (s : SettingData) (t : List Row) (n kind : List ℕ) (k b : ℕ) → kind_number s kind ≡ Some k → free_ids t 1 ≡ b ∷ [] → (after_add_bucket s t n kind).table ≡ t ++ bucket_row None (new_header (record { id = b; kind = k; name = n })) ∷ []
 
@@ -77,11 +77,11 @@ AddedIsRow = (s : SettingData) (t : List Row) (n kind : List ℕ) (k b : ℕ) �
 abbrev pub AddedChanges : Type 0
 AddedChanges = (s : SettingData) (t : List Row) (n kind : List ℕ) → same_table t (after_add_bucket s t n kind).table ≡ false
 
--- a lawful table that the setting fits stays lawful after a bucket is added, if the type is known and isn't type 0, the name is a name that no row has, and there are not too many items afterwards
+-- a lawful table that the setting fits stays lawful after a bucket is added, if the bucket's type is known and isn't type 0, its name is a valid name that no row has, and there are not too many items afterwards
 abbrev pub AddedKeepsLawful : Type 0
 AddedKeepsLawful = (s : SettingData) (t : List Row) (n kind : List ℕ) (k : ℕ) → Lawful t → Fits s t → kind_number s kind ≡ Some k → (k == 0) ≡ false → IsName n → is_named t n ≡ false → has_too_many (after_add_bucket s t n kind).table ≡ false → Lawful (after_add_bucket s t n kind).table
 
--- adding a bucket leaves the number of devices as it is, and increases the number of buckets by 1
+-- adding a bucket leaves the number of devices unchanged, and increases the number of buckets by 1
 abbrev pub AddedCounts : Type 0
 AddedCounts = (s : SettingData) (t : List Row) (n kind : List ℕ) → (device_count (after_add_bucket s t n kind).table ≡ device_count t) × (bucket_count (after_add_bucket s t n kind).table ≡ bucket_count t + 1)
 

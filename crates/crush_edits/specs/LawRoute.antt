@@ -1,4 +1,4 @@
--- Laws of routes and of the buckets that they create.
+-- Laws about routes and about the buckets that they create.
 use Rattle.std.specs.Prelude.{◌≡◌, ℕ, ◌≤◌, List, [], ◌∷◌, ◌++◌, Option, Some, None, IfSome, false, ◌==◌, length, All, bytes_eq}
 use Rattle.std.specs.List.{sum_by, count_by}
 use Rattle.crush_units.specs.Name.{IsName}
@@ -20,7 +20,7 @@ use Rattle.crush_units.specs.declared.limits.TheConstants.{MOST_PAIRS}
 abbrev pub rows_made : List Row → List StopData → List Row
 rows_made t ps = last_first (chain (new_buckets t ps) (receiver t ps))
 
--- STOPS: adding a pair to a location adds its stop, if the pair's type is known
+-- STOPS: adding a pair to a location adds the pair's stop, if the pair's type is known
 abbrev pub StopsStep : Type 0
 StopsStep = (s : SettingData) (l : List Pair) (p : Pair) → stops s (l ++ p ∷ []) ≡ with_stop (kind_number s p.kind) p.name (stops s l)
 
@@ -33,7 +33,7 @@ Rises (p ∷ ps) = All (λ (q : StopData). p.kind ≤ q.kind) ps × Rises ps
 abbrev pub StopsRise : Type 0
 StopsRise = (s : SettingData) (l : List Pair) → Rises (stops s l)
 
--- the value of f for the stop of a pair, or 0 if the pair's type is unknown and so has no stop
+-- the value of f for the stop of a pair. If the pair's type is unknown, the pair has no stop, and the value is 0
 abbrev pub of_stop : (StopData → ℕ) → Option ℕ → List ℕ → ℕ
 of_stop f None n = 0
 of_stop f (Some k) n = f (record { kind = k; name = n })
@@ -42,28 +42,28 @@ of_stop f (Some k) n = f (record { kind = k; name = n })
 abbrev pub StopsArePairs : Type 0
 StopsArePairs = (s : SettingData) (l : List Pair) (f : StopData → ℕ) → sum_by f (stops s l) ≡ sum_by (λ (p : Pair). of_stop f (kind_number s p.kind) p.name) l
 
--- ROUTES: if the setting fits the table, and a valid location passes its tests and doesn't lead to a device, then its stops are a route
+-- ROUTES: if the setting fits the table, a valid location passes its tests, and the item that ends its route, if there is one, isn't a device, then the stops of the location are a route
 abbrev pub LocationIsRoute : Type 0
 LocationIsRoute = (s : SettingData) (t : List Row) (l : List Pair) → Fits s t → All (λ (p : Pair). IsName p.name) l → length l ≤ MOST_PAIRS → is_bad_location s l ≡ false → has_no_kind s l ≡ false → (length l == 0) ≡ false
     → IfSome (end_id t (stops s l)) (λ i. is_device_id i ≡ false) → IsRoute t (stops s l)
 
--- no stop has a name that the location doesn't have as the name of a bucket
+-- if no pair of a location has the name n as the name of its bucket, then no stop of the location has the name n
 abbrev pub OtherIsNoStop : Type 0
 OtherIsNoStop = (s : SettingData) (l : List Pair) (n : List ℕ) → names_it l n ≡ false → count_by (λ (p : StopData). bytes_eq p.name n) (stops s l) ≡ 0
 
--- the new buckets of a route can be added to a lawful table: their ids and names are unused, and what receives them is in the table
+-- the new buckets of a route can be added to a lawful table: their ids and names are unused, and the receiver, if there is one, is in the table
 abbrev pub RouteIsFresh : Type 0
 RouteIsFresh = (t : List Row) (ps : List StopData) → Lawful t → IsRoute t ps → AreNew t (new_buckets t ps) (receiver t ps)
 
--- a route always leads to a bucket that the item is put into
+-- for each route there is a bucket into which the item is put
 abbrev pub RouteLeads : Type 0
 RouteLeads = (t : List Row) (ps : List StopData) → IsRoute t ps → (b : ℕ) × (next_place t ps ≡ Some b)
 
--- NEW BUCKETS: new buckets nested as items have the same rows as the table gets for them, followed by the rows of the items in the lowest of them
+-- NEW BUCKETS: if new buckets are nested as items, their rows are the rows that a put appends for them, but from the uppermost bucket down. The rows of the items in the lowest new bucket follow
 abbrev pub BoxesAreRows : Type 0
 BoxesAreRows = (m : ℕ) (n : Items) (ns : List NewData) (top : Option ℕ) → rows top (boxes m n ns) ≡ last_first (chain ns top) ++ rows (next_up ns top) n
 
--- a lawful table stays lawful after the new buckets of a route are appended, if there are not too many items
+-- a lawful table stays lawful after the new buckets of a route are appended, if there are not too many items afterwards
 abbrev pub NewKeepsLawful : Type 0
 NewKeepsLawful = (t : List Row) (ps : List StopData) → Lawful t → IsRoute t ps → has_too_many (t ++ rows_made t ps) ≡ false → Lawful (t ++ rows_made t ps)
 

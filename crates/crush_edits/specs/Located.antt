@@ -13,7 +13,7 @@ use Rattle.crush_edits.specs.Setting.{SettingData, kind_number}
 use Rattle.crush_edits.specs.Stops.{StopData, end_stop, end_id}
 use Rattle.crush_edits.specs.Answer.{meets, is_a_device, is_heavy}
 
--- whether two of the names are equal
+-- whether the list has a name twice
 abbrev pub has_twice : List (List ℕ) → Bool
 has_twice ns = not (are_apart bytes_eq ns)
 
@@ -33,22 +33,22 @@ has_no_kind s l = list_any (λ (p : Pair). is_none (kind_number s p.kind)) l
 abbrev pub names_it : List Pair → List ℕ → Bool
 names_it l n = list_any (λ (p : Pair). bytes_eq p.name n) l
 
--- whether an item with another id has the name, or the item of this id has another name
+-- whether an item with another id has the name, or the item with this id has another name
 abbrev pub is_taken : List Row → ItemId → List ℕ → Bool
 is_taken t i n = meets (λ j. not (same_id j i)) (id_named t n) || meets (λ m. not (bytes_eq m n)) (name_of t i)
 
--- whether the item that ends the route has another type than its pair says
+-- whether the item that ends the route has another type than the pair of the location that names it
 abbrev pub is_wrong_kind : List Row → List StopData → Bool
 is_wrong_kind t ps = meets (λ (p : StopData). meets (λ i. meets (λ k. not (k == p.kind)) (kind_of t i)) (id_named t p.name)) (end_stop t ps)
 
--- THE TESTS of the location alone: it is bad; it has an unknown type; it is empty
+-- THE REFUSALS that are about the location alone, with their tests: the location has a name twice or has type 0; it has an unknown type; it has no pairs
 abbrev pub location_tests : SettingData → List Pair → List (Refusal × Bool)
 location_tests s l = (BadLocation, is_bad_location s l) ∷ ((NoSuchType, has_no_kind s l) ∷ ((NoPlace, length l == 0) ∷ []))
 
--- the tests of a device with its location: the location has the device's name; the tests of the location; the weight is too large; the name or the id is taken
+-- the refusals that are about a device and its location, with their tests: the location has the device's name; the tests of the location; the weight is too large; the device's name belongs to another item, or the device's id has another name
 abbrev pub located_device_tests : SettingData → List Row → ℕ → List ℕ → ℕ → List Pair → List (Refusal × Bool)
 located_device_tests s t d n w l = (BadName, names_it l n) ∷ (location_tests s l ++ ((WeightTooLarge, is_heavy w) ∷ ((NameTaken, is_taken t (Device d) n) ∷ [])))
 
--- the tests of the end of a route: the item that ends it is a device; it has another type than its pair says
+-- the refusals that are about the end of a route, with their tests: the item that ends the route is a device; this item has another type than the pair of the location that names it
 abbrev pub end_tests : List Row → List StopData → List (Refusal × Bool)
 end_tests t ps = (NotABucket, is_a_device (end_id t ps)) ∷ ((WrongType, is_wrong_kind t ps) ∷ [])

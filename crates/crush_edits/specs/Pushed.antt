@@ -20,7 +20,7 @@ pub record CanPush (l : List Pair) (kind name : List ℕ) : Type 0 where
   pub kind_form : IsName kind
   pub name_form : IsName name
 
--- in which case each fault is right. TooMany: the location is full. BadName: it isn't full, and one of the two isn't a name. OutOfMemory: the pair can be added. For each location and pair, exactly one of the three is right
+-- in which case each fault may be returned. TooMany: the location is full. BadName: the location isn't full, and the type name or the bucket name isn't a valid name. OutOfMemory: the pair can be added. For each location and pair, exactly one of the three faults may be returned
 abbrev pub IsLocationFault : List Pair → List ℕ → List ℕ → LocationFault → Type 0
 IsLocationFault l kind name TooMany = MOST_PAIRS ≤ length l
 IsLocationFault l kind name BadName = (length l < MOST_PAIRS) × ((is_name kind && is_name name) ≡ false)
@@ -32,7 +32,7 @@ location_fault_number TooMany = 1
 location_fault_number BadName = 2
 location_fault_number OutOfMemory = 3
 
--- the location's fault for the fault of a name in a pair: the bytes are no name, or there is no memory for them
+-- the fault of a location for the fault of a name in a pair: the bytes aren't a valid name, or there is no memory for them
 abbrev pub fault_of_name : NameFault → LocationFault
 fault_of_name Empty = BadName
 fault_of_name (BadByte place) = BadName

@@ -3,7 +3,7 @@ use Rattle.std.specs.Prelude.{ℕ, List, codes}
 use Rattle.crush_edits.specs.declared.refusal.Refusal.{Refusal}
 use Rattle.crush_edits.specs.declared.refusal.Refusal.TheVariants.{BadName, BadLocation, NoSuchType, NoPlace, WeightTooLarge, NoSuchItem, NameTaken, AlreadyPlaced, NotPlaced, NotADevice, NotABucket, WrongType, Loop, Nested, NotEmpty, InUse, NotDirectory, AlreadyRenamed, NoRoom, SumTooLarge, ClassBound}
 
--- the name of a refusal, as a line of a history has it
+-- the name of a refusal, in the form in which lines of a history have it
 abbrev pub refusal_name : Refusal → List ℕ
 refusal_name BadName = codes "BadName"
 refusal_name BadLocation = codes "BadLocation"
@@ -51,7 +51,7 @@ refusal_sentence NoRoom = codes "a map has at most 4096 buckets and 65536 device
 refusal_sentence SumTooLarge = codes "the total weight is too large: at most 65535.99998 for a bucket and 134217727.99998 for all devices"
 refusal_sentence ClassBound = codes "the device has a different class: remove this class first with rm-device-class"
 
--- the number of a refusal: if several hold for an edit, the one with the least number is reported
+-- the number of a refusal. If the tests of several refusals hold for an edit, the edit is refused with the one that has the least number
 abbrev pub refusal_number : Refusal → ℕ
 refusal_number BadName = 1
 refusal_number BadLocation = 2
@@ -75,7 +75,7 @@ refusal_number NoRoom = 19
 refusal_number SumTooLarge = 20
 refusal_number ClassBound = 21
 
--- the number of the nearest Linux error
+-- the number of the Linux error (errno) whose meaning is nearest to the refusal
 abbrev pub refusal_error : Refusal → ℕ
 refusal_error BadName = 22
 refusal_error BadLocation = 22

@@ -1,4 +1,4 @@
--- What `==` answers for two edits.
+-- What `==` returns for two edits.
 use Rattle.std.specs.Prelude.{Bool}
 use Rattle.std.specs.Cmp.{IsEquivalence}
 use Rattle.crush_edits.specs.declared.edit.Edit.{Edit}

@@ -1,4 +1,4 @@
--- What `==` answers for two pairs, and for two locations.
+-- What `==` returns for two pairs, and for two locations.
 use Rattle.std.specs.Prelude.{List, Bool}
 use Rattle.std.specs.Cmp.Lexicographic.{pointwise}
 use Rattle.crush_edits.specs.declared.location.Pair.{Pair}

@@ -1,4 +1,4 @@
--- The setting of a map: what the map holds besides its items.
+-- The setting of a map: its types, tunables and rules. These are the parts of a map other than its items.
 use Rattle.std.specs.Prelude.{ℕ, ℤ, List, [], ◌∷◌, Option, Bool, ◌==◌, find, flat_map, bytes_eq}
 use Rattle.std.specs.List.{list_any}
 use Rattle.std.specs.Option.{option_map}
@@ -13,7 +13,7 @@ pub record TunableData : Type 0 where
   pub name : List ℕ
   pub value : ℕ
 
--- a step of a rule. take: the distance of a bucket's id below 0, and a class or none. choose: whether the step also chooses a device below each item (chooseleaf), whether items after a failed one move up (firstn), how many items, and the name of their type. set: the name of a parameter, and its value. emit: outputs what was chosen
+-- a step of a rule. take: the distance of a bucket's id below 0, and a class or none. choose: whether the step also chooses a device below each item (chooseleaf), whether items after a failed one move up (firstn), how many items, and the name of their type. set: the name of a parameter, and its value. emit: outputs the items that were chosen
 pub data StepData : Type 0 where
   take : ℕ → Option (List ℕ) → StepData
   choose : Bool → Bool → ℤ → List ℕ → StepData
@@ -62,7 +62,7 @@ bucket_taken (choose leaf firstn count kind) = []
 bucket_taken (set word value) = []
 bucket_taken emit = []
 
--- the buckets that the steps of these rules take, each as often as a step takes it
+-- the buckets that the steps of these rules take. A bucket that several steps take is in the list several times
 abbrev pub taken_by : List RuleData → List ℕ
 taken_by rules = flat_map (λ (r : RuleData). flat_map bucket_taken r.steps) rules
 

@@ -1,4 +1,4 @@
--- Where a location leads: its stops by ascending type number, and the stop that ends its route.
+-- Where a location leads: its stops in ascending order of their type numbers, and the stop that ends its route.
 use Rattle.std.specs.Prelude.{ℕ, List, [], Option, Some, None, Bool, not, find, take_while, fold, option_and_then, nat_le, insert}
 use Rattle.std.specs.List.{position_or_len}
 use Rattle.crush_units.specs.declared.id.ItemId.{ItemId}
@@ -7,7 +7,7 @@ use Rattle.crush_model.specs.Table.{Row, id_named, is_named}
 use Rattle.crush_edits.specs.declared.location.Pair.{Pair}
 use Rattle.crush_edits.specs.Setting.{SettingData, kind_number}
 
--- a stop: a pair of a location, with the number of its type instead of the type's name
+-- a stop: a pair of a location, but with the number of the type instead of the type's name
 pub record StopData : Type 0 where
   pub kind : ℕ
   pub name : List ℕ
@@ -16,12 +16,12 @@ pub record StopData : Type 0 where
 abbrev pub insert_stop : StopData → List StopData → List StopData
 insert_stop p ps = insert ps (position_or_len (λ (q : StopData). nat_le p.kind q.kind) ps) p
 
--- the stops with one more, for a pair of this type number and name; without one if the type is unknown
+-- the stops with the stop of one more pair, which has this type number and this name. If the pair's type is unknown, no stop is added
 abbrev pub with_stop : Option ℕ → List ℕ → List StopData → List StopData
 with_stop None n ps = ps
 with_stop (Some k) n ps = insert_stop (record { kind = k; name = n }) ps
 
--- the stops of a location, by ascending type number; a pair whose type the setting doesn't have gives no stop
+-- the stops of a location, in ascending order of their type numbers. A pair whose type the setting doesn't have isn't a stop
 abbrev pub stops : SettingData → List Pair → List StopData
 stops s l = fold (λ ps (p : Pair). with_stop (kind_number s p.kind) p.name ps) [] l
 
@@ -29,11 +29,11 @@ stops s l = fold (λ ps (p : Pair). with_stop (kind_number s p.kind) p.name ps) 
 abbrev pub is_fresh : List Row → StopData → Bool
 is_fresh t p = not (is_named t p.name)
 
--- the stops before the first whose name the table has: for each of them a bucket is created
+-- the stops before the first stop whose name the table has. For each of these stops, a bucket is created
 abbrev pub fresh_stops : List Row → List StopData → List StopData
 fresh_stops t ps = take_while (is_fresh t) ps
 
--- the stop that ends the route: the first whose name the table has, or none
+-- the stop that ends the route: the first stop whose name the table has, or none
 abbrev pub end_stop : List Row → List StopData → Option StopData
 end_stop t ps = find (λ (p : StopData). is_named t p.name) ps
 

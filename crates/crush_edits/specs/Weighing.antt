@@ -9,7 +9,7 @@ use Rattle.crush_edits.specs.declared.refusal.Refusal.TheVariants.{WeightTooLarg
 use Rattle.crush_edits.specs.Stops.{bucket_named}
 use Rattle.crush_edits.specs.Answer.{After, kept, on_some, meets, is_a_device, is_a_bucket, is_heavy, sum_test}
 
--- REWEIGHT: sets the weight column of the item of name n
+-- REWEIGHT: sets the weight in the row of the item with the name n
 abbrev pub after_reweight : List Row → List ℕ → ℕ → After
 after_reweight t n w = on_some t (id_named t n) (λ i. kept (set_weight i w t))
 
@@ -17,12 +17,12 @@ after_reweight t n w = on_some t (id_named t n) (λ i. kept (set_weight i w t))
 abbrev pub is_unplaced : List Row → ItemId → Bool
 is_unplaced t i = is_device_id i && is_none (parent_of t i)
 
--- the refusals of Reweight with their tests: the weight is too large; no item has the name; the item is a device in no bucket; it is a bucket; a sum is too large afterwards
+-- the refusals of Reweight with their tests: the weight is too large; no item has the name; the item is a device that is in no bucket; the item is a bucket; a sum is too large afterwards
 abbrev pub reweight_tests : List Row → List ℕ → ℕ → After → List (Refusal × Bool)
 reweight_tests t n w a =
     (WeightTooLarge, is_heavy w) ∷ ((NoSuchItem, not (is_named t n)) ∷ ((NotPlaced, meets (is_unplaced t) (id_named t n)) ∷ ((NotADevice, is_a_bucket (id_named t n)) ∷ (sum_test a ∷ []))))
 
--- REWEIGHT SUBTREE: sets the weight column of all devices below the bucket of name n
+-- REWEIGHT SUBTREE: sets the weight in the rows of all devices below the bucket with the name n
 abbrev pub after_subtree : List Row → List ℕ → ℕ → After
 after_subtree t n w = on_some t (bucket_named t n) (λ b. kept (set_subtree b w t))
 
