@@ -26,7 +26,7 @@ one_changed false = 0
 abbrev pub with_done : Dones → Bool → ℕ → Dones
 with_done d changed made = record { edits = d.edits + 1; changed = d.changed + one_changed changed; made = d.made + made }
 
--- the result of a batch after one of its edits has this result. If the edit is refused, the batch is refused, with the edit's index, which is the number of edits before it. Otherwise the function `others` applies the remaining edits
+-- the result of a batch, given the counts d before one of its edits, and the result of this edit. If the edit is refused, the batch is refused, with the edit's index, which is the number of edits before it. Otherwise the function `others` gives the result of the remaining edits
 abbrev pub and_then : Dones → Answer → (Dones → List Row → BatchAnswer) → BatchAnswer
 and_then d (refused r) others = batch_refused d.edits r
 and_then d (done changed made t) others = others (with_done d changed made) t

@@ -51,6 +51,6 @@ abbrev pub is_remove : Edit → Bool
 is_remove (Remove n) = true
 is_remove _ = false
 
--- MADE: after any valid edit except Remove that isn't refused, the number of buckets in the table has grown by the number that the edit's result has as the number of created buckets
+-- MADE: after any valid edit except Remove that isn't refused, the number of buckets in the table has grown by exactly the number of created buckets that the edit's result has
 abbrev pub MadeAreBuckets : Type 0
 MadeAreBuckets = (s : SettingData) (t : List Row) (e : Edit) → Keeps s t → IsEdit e → refusal s t e ≡ None → is_remove e ≡ false → bucket_count (after s t e).table ≡ bucket_count t + (after s t e).made

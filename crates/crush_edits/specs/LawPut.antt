@@ -60,7 +60,7 @@ abbrev pub PutTakes : Type 0
 PutTakes = (t : List Row) (ps : List StopData) (r : Row) (n : Items) → Lawful t → IsRoute t ps → row_of t r.id ≡ Some r → IsApart t r.id ps → has_too_many (put t r ps) ≡ false → IsOne n → Same (rows None n) (part r.id t)
     → Same ((table_without r.id t ++ rows_made t ps) ++ rows (next_place t ps) n) (put t r ps)
 
--- PUT IN ONE STEP, for the test of sums: the item is detached, and the new buckets are attached with the item already in them. In the resulting table no id occurs twice, and a sum of it is too large if and only if a sum of the table of the put is too large
+-- PUT IN ONE STEP, for the test of sums: the item is detached, and the new buckets are attached with the item already in them. In the resulting table no id occurs twice. The sums of this table are too large if and only if the sums of the table of the put are too large
 abbrev pub PutsBoxed : Type 0
 PutsBoxed = (m : ℕ) (t : List Row) (ps : List StopData) (r : Row) (n : Items) → Lawful t → IsRoute t ps → row_of t r.id ≡ Some r → IsApart t r.id ps → has_too_many (put t r ps) ≡ false → IsOne n → Same (rows None n) (part r.id t)
     → OnceIds (table_without r.id t ++ rows (receiver t ps) (route_boxes m n t ps)) × (is_too_heavy (table_without r.id t ++ rows (receiver t ps) (route_boxes m n t ps)) ≡ is_too_heavy (put t r ps))

@@ -12,7 +12,7 @@ use Rattle.crush_model.specs.Columns.{set_weight, set_subtree, set_name, set_cla
 use Rattle.crush_model.specs.ItemRows.{rows}
 use Rattle.crush_units.specs.declared.limits.TheConstants.{HEAVIEST_DEVICE}
 
--- the change of a lawful table results in a lawful table
+-- each lawful table is still lawful after the change
 abbrev pub KeepsLawful : (List Row → List Row) → Type 0
 KeepsLawful change = (t : List Row) → Lawful t → Lawful (change t)
 
@@ -27,17 +27,17 @@ abbrev pub SubtreeKeepsLawful : Type 0
 SubtreeKeepsLawful = (t : List Row) (b w : ℕ) → Lawful t → w ≤ HEAVIEST_DEVICE
     → is_too_heavy (set_subtree b w t) ≡ false → Lawful (set_subtree b w t)
 
--- an item of the table may get a new name, if that is a name and no row has it
+-- an item of the table may get a new name, if the new name is valid and no row has it
 abbrev pub NameKeepsLawful : Type 0
 NameKeepsLawful = (i : ItemId) (n : List ℕ) (t : List Row) (r : Row) → Lawful t
     → row_of t i ≡ Some r → IsName n → is_named t n ≡ false → Lawful (set_name i n t)
 
--- a device may get a new class, if that is a name, or lose its class
+-- a device may get a new class, if the new class is a valid name. It may also lose its class
 abbrev pub ClassKeepsLawful : Type 0
 ClassKeepsLawful = (d : ℕ) (c : Option (List ℕ)) (t : List Row) → Lawful t → IfSome c IsName
     → Lawful (set_class (Device d) c t)
 
--- an item's row may be taken out and appended with the bucket b as its parent and with the weight w. The bucket has to be in the table, and it may be neither the item nor below it; the new row has to be well-formed, and no sum may exceed its limit afterwards
+-- an item's row may be removed and appended again with the bucket b as its parent and with the weight w. The bucket b has to be in the table, and it may be neither the item itself nor below the item. The new row has to be well-formed. Afterwards, no sum may exceed its limit
 abbrev pub MoveKeepsLawful : Type 0
 MoveKeepsLawful = (t : List Row) (i : ItemId) (b w : ℕ) (r : Row) → Lawful t → row_of t i ≡ Some r
     → is_there t (Bucket b) ≡ true → is_part t i (Bucket b) ≡ false
@@ -63,7 +63,7 @@ BucketKeepsLawful = (t : List Row) (b : ℕ) (r : Row) → r.id ≡ Bucket b →
     → IsRow r → r.parent ≡ None → member b (used_ids t) ≡ false → is_named t r.name ≡ false
     → has_too_many (t ++ r ∷ []) ≡ false → Lawful (t ++ r ∷ [])
 
--- the rows of an item without a parent, and of all items below it, are a lawful table by themselves
+-- if an item has no parent, its row and the rows of all items below it are a lawful table by themselves
 abbrev pub PartKeepsLawful : Type 0
 PartKeepsLawful = (t : List Row) (i : ItemId) → Lawful t → is_placed t i ≡ false → Lawful (part i t)
 
@@ -71,7 +71,7 @@ PartKeepsLawful = (t : List Row) (i : ItemId) → Lawful t → is_placed t i ≡
 abbrev pub PlacedRowKeepsForm : Type 0
 PlacedRowKeepsForm = (b : ℕ) (r : Row) → IsRow r → IsRow (record r { parent = Some b })
 
--- a device's well-formed row is also well-formed with a bucket as its parent and another weight, which is at most that of the heaviest device
+-- a device's well-formed row is also well-formed with a bucket as its parent and with another weight, if this weight is at most that of the heaviest device
 abbrev pub PlacedDeviceKeepsForm : Type 0
 PlacedDeviceKeepsForm = (d b w : ℕ) (r : Row) → r.id ≡ Device d → w ≤ HEAVIEST_DEVICE → IsRow r
     → IsRow (record r { parent = Some b; weight = w })

@@ -1,4 +1,4 @@
--- Laws about what is read from a table.
+-- Laws about what can be read from a table.
 use Rattle.std.specs.Prelude.{◌≡◌, ℕ, ◌+◌, ◌*◌, ◌<◌, ◌≤◌, List, ◌++◌, false, length, unwrap_or, All, ◌==◌}
 use Rattle.std.specs.List.{sum_by, count_by}
 use Rattle.crush_units.specs.declared.id.ItemId.{ItemId}
@@ -16,11 +16,11 @@ pub use Rattle.crush_model.specs.MoveLaw.{IsOne}
 abbrev pub SumsItems : List Row → Type 0
 SumsItems t = (b : ℕ) → sum_below t b ≡ sum_by (λ i. unwrap_or (weight_of t i) 0) (kids t b)
 
--- following parents more often than there are rows finds no more buckets above an item
+-- following parents as often as there are rows, or more often, gives the same buckets above an item
 abbrev pub ClimbEnds : List Row → Type 0
 ClimbEnds t = (n : ℕ) (i : ItemId) → length t ≤ n → climb t n i ≡ above t i
 
--- reading gives equal results on both tables: the row of each id and of each name, and so all columns; the items of each bucket in order; the buckets above each item; each bucket's sum, each item's weight, and the weight of each class in it; the total; the numbers of devices and buckets; which ids are in use, and the first n free ids
+-- reading gives equal results on both tables. This is about the row of each id and of each name, and so about all columns; the items of each bucket, in order; the buckets above each item; the sum of each bucket; the weight of each item; the weight of each class in each item; the total; the numbers of devices and buckets; whether an id is in use; and the first n free ids
 pub record AreReadAlike (t u : List Row) : Type 0 where
   pub row : (i : ItemId) → row_of t i ≡ row_of u i
   pub named : (n : List ℕ) → row_named t n ≡ row_named u n
@@ -35,38 +35,38 @@ pub record AreReadAlike (t u : List Row) : Type 0 where
   pub used : (k : ℕ) → member k (used_ids t) ≡ member k (used_ids u)
   pub free : (n : ℕ) → free_ids t n ≡ free_ids u n
 
--- if a table is lawful and another is the same, then reading gives equal results on both, and the other is lawful too
+-- if a table is lawful, and another table is the same as it (Same), then reading gives equal results on both tables, and the other table is also lawful
 abbrev pub SameIsAlike : Type 0
 SameIsAlike = (t u : List Row) → Lawful t → Same t u → AreReadAlike t u × Lawful u
 
--- if two tables are the same and have no id twice, lawful or not, then both have some sum or the total above its limit, or neither has
+-- if two tables are the same and have no id twice, then either both are too heavy (a sum or the total is above its limit), or neither is. The tables need not be lawful
 abbrev pub HeavyIsAlike : Type 0
 HeavyIsAlike = (t u : List Row) → ((i : ItemId) → count_by (λ (r : Row). same_id r.id i) t ≤ 1)
     → Same t u → is_too_heavy t ≡ is_too_heavy u
 
--- if two tables are the same, lawful or not, then both have too many devices or buckets, or neither has
+-- if two tables are the same, then either both have too many devices or buckets, or neither has. The tables need not be lawful
 abbrev pub RoomIsAlike : Type 0
 RoomIsAlike = (t u : List Row) → Same t u → has_too_many t ≡ has_too_many u
 
--- a change, made to a lawful table and to another that is the same, results in tables that are the same
+-- if a change is made to a lawful table and to another table that is the same, then the results are also the same
 abbrev pub KeepsSame : (List Row → List Row) → Type 0
 KeepsSame change = (t u : List Row) → Lawful t → Same t u → Same (change t) (change u)
 
--- the tables that a forest represents: if the forest is sound, its own rows are one; any two of them are the same; and each table that is the same as one of them is one too
+-- three statements about the tables that a forest represents. If the forest is sound, it represents its own rows. Any two tables that it represents are the same. If it represents a table, it also represents each table that is the same
 abbrev pub StandsForOne : ForestData → Type 0
 StandsForOne f =
     (IsSound f → Stands f (rows_of f))
     × ((t u : List Row) → Stands f t → Stands f u → Same t u)
     × ((t u : List Row) → Same t u → Stands f t → Stands f u)
 
--- rows u that are appended to a table t add their numbers of devices and buckets and their total; their used ids are appended to those of t
+-- if rows u are appended to a table t, then the numbers of devices and buckets and the totals of t and u are added, and the used ids of u are appended to those of t
 pub record AddsRows (t u : List Row) : Type 0 where
   pub devices : device_count (t ++ u) ≡ device_count t + device_count u
   pub buckets : bucket_count (t ++ u) ≡ bucket_count t + bucket_count u
   pub total : total (t ++ u) ≡ total t + total u
   pub used : used_ids (t ++ u) ≡ used_ids t ++ used_ids u
 
--- the ids are free ids of the table: there are n, each is from 1 to 2^31 below 0 and not in use, and none is there twice
+-- the ids are n free ids of the table: each is from 1 to 2^31 below 0 and not in use, and no id is in the list twice
 pub record AreFreeIds (t : List Row) (n : ℕ) (ids : List ℕ) : Type 0 where
   pub many : length ids ≡ n
   pub some : All (λ k. 0 < k) ids

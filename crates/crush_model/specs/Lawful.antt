@@ -1,4 +1,4 @@
--- Which tables are lawful: those that a map can have.
+-- Which tables are lawful. A map can only have a lawful table.
 use Rattle.std.specs.Prelude.{◌≡◌, ℕ, ◌<◌, ◌≤◌, List, [], None, Bool, true, false, ◌==◌, ◌||◌, length, All, IfSome, bytes_eq, nat_lt}
 use Rattle.std.specs.List.{count_by, list_any}
 use Rattle.crush_units.specs.declared.id.ItemId.{ItemId}
@@ -15,7 +15,7 @@ pub record IsShadowId (c : ShadowData) : Type 0 where
   pub most : c.id ≤ FARTHEST_BUCKET_ID
   pub class : IsName c.class
 
--- the row r of the device d is well-formed: the id is below 2^31, the type is 0, the weight is at most that of the heaviest device and is 0 if the device has no parent, there is no algorithm and no class id, and the class, if any, is a name
+-- the row r of the device d is well-formed: the id is below 2^31, the type is 0, the weight is at most that of the heaviest device, the weight is 0 if the device has no parent, there is no algorithm and no class id, and the class, if there is one, is a valid name
 pub record IsDeviceRow (d : ℕ) (r : Row) : Type 0 where
   pub id : d < DEVICE_IDS
   pub kind : r.kind ≡ 0
@@ -25,7 +25,7 @@ pub record IsDeviceRow (d : ℕ) (r : Row) : Type 0 where
   pub class_ids : r.class_ids ≡ []
   pub class : IfSome r.class IsName
 
--- the row r of the bucket b is well-formed: the id's distance below 0 is from 1 to 2^31, the type is from 1 to 65535, the row weighs 0 and has no class, it has an algorithm, and it has at most 16 class ids, which are well-formed and of distinct classes
+-- the row r of the bucket b is well-formed: the id's distance below 0 is from 1 to 2^31, the type is from 1 to 65535, the row weighs 0 and has no class, it has an algorithm, and it has at most 16 class ids, which are well-formed and have distinct classes
 pub record IsBucketRow (b : ℕ) (r : Row) : Type 0 where
   pub some : 0 < b
   pub most : b ≤ FARTHEST_BUCKET_ID
@@ -38,12 +38,12 @@ pub record IsBucketRow (b : ℕ) (r : Row) : Type 0 where
   pub few : length r.class_ids ≤ MOST_CLASS_IDS
   pub classes : (c : List ℕ) → count_by (λ (x : ShadowData). bytes_eq x.class c) r.class_ids ≤ 1
 
--- the row is well-formed as that of a device or of a bucket, as the id says
+-- the row is a well-formed row of a device if the id is that of a device, and otherwise a well-formed row of a bucket
 abbrev pub IsRowOf : ItemId → Row → Type 0
 IsRowOf (Device d) r = IsDeviceRow d r
 IsRowOf (Bucket b) r = IsBucketRow b r
 
--- a row is well-formed by itself: its name is a name, and the row is well-formed as that of a device or a bucket
+-- a row is well-formed by itself: its name is a valid name, and it has the form of a device's row or of a bucket's row
 pub record IsRow (r : Row) : Type 0 where
   pub name : IsName r.name
   pub form : IsRowOf r.id r

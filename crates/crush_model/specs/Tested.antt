@@ -20,7 +20,7 @@ abbrev pub are_apart : {X : Type 0} → (X → X → Bool) → List X → Bool
 are_apart same [] = true
 are_apart same (x ∷ xs) = not (list_any (same x) xs) && are_apart same xs
 
--- whether there are no bytes, or they are a name
+-- whether there is no name, or the name is valid
 abbrev pub name_or_none : Option (List ℕ) → Bool
 name_or_none None = true
 name_or_none (Some n) = is_name n
@@ -44,7 +44,7 @@ bucket_tests b r =
     ∷ nat_le (length r.class_ids) MOST_CLASS_IDS
     ∷ are_apart bytes_eq (map (λ (c : ShadowData). c.class) r.class_ids) ∷ []
 
--- whether a row passes the tests of a device's or a bucket's row, as the id says
+-- whether a row passes the tests of a device's row if the id is that of a device, and otherwise the tests of a bucket's row
 abbrev pub is_row_of : ItemId → Row → Bool
 is_row_of (Device d) r = all_hold (device_tests d r)
 is_row_of (Bucket b) r = all_hold (bucket_tests b r)
@@ -53,7 +53,7 @@ is_row_of (Bucket b) r = all_hold (bucket_tests b r)
 abbrev pub is_row : Row → Bool
 is_row r = all_hold (is_name r.name ∷ is_row_of r.id r ∷ [])
 
--- whether the parent, if any, is a bucket of the table
+-- whether the parent, if there is one, is a bucket of the table
 abbrev pub parent_is_there : List Row → Option ℕ → Bool
 parent_is_there t None = true
 parent_is_there t (Some p) = is_there t (Bucket p)
@@ -75,6 +75,6 @@ table_tests t =
     ∷ not (is_too_heavy t)
     ∷ not (has_too_many t) ∷ []
 
--- whether a table passes all these tests, that is, whether it is lawful
+-- whether a table passes all tests in table_tests. A table passes them if and only if it is lawful
 abbrev pub is_lawful : List Row → Bool
 is_lawful t = all_hold (table_tests t)

@@ -13,8 +13,8 @@ ghost use Rattle.crush_model.specs.Table.{Row};
 ghost use Rattle.crush_model.specs.Tested.{is_lawful};
 
 /// The law that, in a lawful table, a bucket's weight is the sum of its items' weights. It also
-/// says that the chain of parents above an item ends: following parents more often than there are
-/// rows finds no more of them.
+/// says that the chain of parents above an item ends: it has at most as many buckets as the table
+/// has rows.
 pub fn sums_are_those_of_items()
     ensures sums { (t : List Row) → Lawful t → SumsItems t }
     ensures ends { (t : List Row) → Lawful t → ClimbEnds t }
@@ -22,13 +22,13 @@ pub fn sums_are_those_of_items()
 
 /// The law that reading gives equal results on two tables that are the same, if one of them is
 /// lawful. The other table is then lawful too. Two tables are *the same* if they have the same
-/// rows, in whatever order, and each bucket has its items in the same order.
+/// rows, in any order, and each bucket has its items in the same order in both tables.
 pub fn same_tables_are_read_alike()
     ensures { SameIsAlike }
 {}
 
-/// The law that each change in the contract, made to two lawful tables that are the same, results
-/// in tables that are the same.
+/// The law about two lawful tables that are the same: if a change that the contract names is made
+/// to both tables, then the results are also the same.
 pub fn changes_keep_same()
     ensures weight { (i : ItemId) (w : ℕ) → KeepsSame (set_weight i w) }
     ensures subtree { (b w : ℕ) → KeepsSame (set_subtree b w) }
@@ -63,41 +63,46 @@ pub fn changes_keep_lawful()
     ensures part { PartKeepsLawful }
 {}
 
-/// The law that a row stays well-formed if it gets a bucket as its parent. A device's row stays
-/// well-formed even if its weight changes at the same time.
+/// The law that a well-formed row stays well-formed if it gets a bucket as its parent. A device's
+/// row stays well-formed even if it also gets another weight, which is at most that of the heaviest
+/// device.
 pub fn placed_rows_keep_their_form()
     ensures row { PlacedRowKeepsForm }
     ensures device { PlacedDeviceKeepsForm }
 {}
 
-/// The law that moving an item of a lawful table with all items below it changes just the item's
-/// own row: the row gets another parent and becomes the last.
+/// The law about moving an item of a lawful table, with all items below it, to a new parent that is
+/// neither the item itself nor below it. The result is the same table as if only the item's own row
+/// were removed, and appended again with the new parent.
 pub fn moves_are_of_one_row()
     ensures { (t : List Row) → Lawful t → Relocates t }
 {}
 
-/// The law that moving a device of a lawful table and giving it another weight changes just the
-/// device's own row: the row gets another parent and weight and becomes the last.
+/// The law about moving a device of a lawful table to a new parent, and giving it a new weight. The
+/// result is the same table as if only the device's own row were removed, and appended again with
+/// the new parent and the new weight.
 pub fn moves_of_devices_are_of_one_row()
     ensures { (t : List Row) → Lawful t → RelocatesDevice t }
 {}
 
-/// The law that the free ids of a table are ids of buckets, unused and distinct. It also says how
-/// many ids a lawful table uses at most.
+/// The law that the free ids of a table are ids of buckets, unused and distinct, if the number of
+/// used ids plus the number of requested ids is at most 2^31. It also says how many ids a lawful
+/// table uses at most.
 pub fn free_ids_are_free()
     ensures free { FreeIdsAreFree }
     ensures few { FewIdsAreUsed }
 {}
 
-/// The law that the tests for sums and for the number of items have equal results on tables that
-/// are the same. The law about sums requires that no table has an id twice.
+/// The law that the test of sums has equal results on two tables that are the same, and that the
+/// test of the numbers of devices and buckets also has equal results on them. The tables need not
+/// be lawful. For the test of sums, no id may be in a table twice.
 pub fn tests_are_alike()
     ensures sums { HeavyIsAlike }
     ensures room { RoomIsAlike }
 {}
 
-/// The law that removing a bucket without items, or a device, removes just its own row. A bucket
-/// without items adds nothing to any sum.
+/// The law that removing a bucket without items, or a device, removes just its own row. In a lawful
+/// table, a bucket without items adds nothing to any sum.
 pub fn empty_bucket_is_one_row()
     ensures bucket { EmptyIsRow }
     ensures device { DeviceIsRow }
@@ -106,14 +111,14 @@ pub fn empty_bucket_is_one_row()
     ensures sums { EmptyKeepsSums }
 {}
 
-/// The law that rows appended to a table add their numbers of devices and buckets, their total
-/// weight and their used ids to those of the table.
+/// The law that rows which are appended to a table add to the numbers of devices and buckets, to
+/// the total weight and to the used ids of the table.
 pub fn counts_add()
     ensures { (t u : List Row) → AddsRows t u }
 {}
 
-/// The law that a table is lawful if and only if it passes the test `is_lawful`, which can be
-/// computed.
+/// The law that a table is lawful if and only if it passes the test `is_lawful`. The result of this
+/// test can be computed.
 pub fn lawful_is_what_passes()
     ensures { (t : List Row) → (is_lawful t ≡ true) ↔ Lawful t }
 {}

@@ -1,10 +1,12 @@
-//! The table that a forest of buckets and devices represents. It is a flat list of rows, one for
-//! each item, without stored sums. Contracts describe each change of a map by what it does to this
-//! table.
+//! The *table*: the model of a map that contracts use. A table is a flat list of rows, with one row
+//! for each item (a device or a bucket), and without stored sums. Contracts describe a change of a
+//! map by what the change does to the table. In the code, a map is a *forest* of nested buckets and
+//! devices, and the forest *represents* a table.
 //!
-//! This crate has no code that runs. `specs/` has the definitions; read `Table` and `Lawful` first.
-//! [`law`] has the laws. In `proofs/`, the modules `Unlawful`, `TooMany` and `TooHeavy` have tables
-//! that each break exactly one condition of a lawful table.
+//! This crate has no code that does anything at run time. `specs/` has the definitions. Read the
+//! definitions in `Table` and `Lawful` first. [`law`] has the laws. In `proofs/`, the modules
+//! `Unlawful`, `TooMany` and `TooHeavy` have examples of tables and rows, each of which breaks
+//! exactly one of the conditions of a lawful table.
 #![tactic(auto)]
 
 pub mod law;
