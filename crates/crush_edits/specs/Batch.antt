@@ -17,7 +17,7 @@ pub data BatchAnswer : Type 0 where
 abbrev pub no_dones : Dones
 no_dones = record { edits = 0; changed = 0; made = 0 }
 
--- 1 for an edit that changed the table, 0 for any other
+-- 1 for an edit that changed the table, 0 for any other edit
 abbrev pub one_changed : Bool → ℕ
 one_changed true = 1
 one_changed false = 0

@@ -5,7 +5,7 @@ use Rattle.crush_model.specs.Stored.{weight_sum}
 use Rattle.crush_model.specs.Table.{Row}
 use Rattle.crush_edits.specs.Put.{NewData, new_header}
 
--- items put into the first of several new buckets, that bucket into the second, and so on; each bucket has memory for m items
+-- the items, put into the first of several new buckets, which is put into the second, and so on. Each new bucket has memory for m items
 abbrev pub boxes : ℕ → Items → List NewData → Items
 boxes m items [] = items
 boxes m items (n ∷ ns) = boxes m (bucket (new_header n) (weight_sum items) m items none) ns

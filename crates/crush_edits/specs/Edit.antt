@@ -1,4 +1,4 @@
--- What each edit does to the table of a map. The edits are those of `ceph osd crush`; the refusals are this editor's own.
+-- What each edit does to the table of a map. The edits are the same as those of `ceph osd crush`, but the refusals are this editor's own.
 use Rattle.std.specs.Prelude.{List, Option, Bool, true, false}
 use Rattle.crush_model.specs.Table.{Row}
 use Rattle.crush_edits.specs.declared.refusal.Refusal.{Refusal}

@@ -23,11 +23,11 @@ pairs_text at = flat_map pair_text at
 abbrev pub one_name : List ℕ → List ℕ → List ℕ
 one_name first name = first ++ codes " " ++ name
 
--- a command's first word and two names, each after a space
+-- a command's first word, and then two names, each after a space
 abbrev pub two_names : List ℕ → List ℕ → List ℕ → List ℕ
 two_names first a b = first ++ codes " " ++ a ++ codes " " ++ b
 
--- a command's first word, a name, and a weight with five decimals, each after a space
+-- a command's first word, and then a name and a weight with five digits after the point, each after a space
 abbrev pub name_and_weight : List ℕ → List ℕ → ℕ → List ℕ
 name_and_weight first name weight = first ++ codes " " ++ name ++ codes " " ++ weight_text weight
 

@@ -17,7 +17,7 @@ pub record IsKind (k : KindData) : Type 0 where
   pub name : IsName k.name
   pub free : 0 < k.number → is_reserved k.name ≡ false
 
--- a valid tunable: its name is a name, and its value is in range
+-- a valid tunable: its name is a valid name, and its value is in range
 pub record IsTunable (k : TunableData) : Type 0 where
   pub name : IsName k.name
   pub value : k.value ≤ LARGEST_TUNABLE
@@ -32,7 +32,7 @@ pub record IsChoice (s : SettingData) (count : ℤ) (kind : List ℕ) : Type 0 w
   pub range : IsCount count
   pub known : is_some (kind_number s kind) ≡ true
 
--- a valid step that sets a parameter: the word is a name that begins with `set_`, and the value is in range
+-- a valid step that sets a parameter: the word is a valid name that begins with `set_`, and the value is in range
 pub record IsSet (word : List ℕ) (value : ℕ) : Type 0 where
   pub name : IsName word
   pub sets : starts_with nat_eq word (codes "set_") ≡ true
@@ -45,7 +45,7 @@ IsStep s (choose leaf firstn count kind) = IsChoice s count kind
 IsStep s (set word value) = IsSet word value
 IsStep s emit = Unit {0}
 
--- a valid rule: its name and its kind are names, its numbers are in range, its steps are valid, and there are at most MOST_STEPS steps
+-- a valid rule: its name and its kind are valid names, its numbers are in range, its steps are valid, and there are at most MOST_STEPS steps
 pub record IsRule (s : SettingData) (r : RuleData) : Type 0 where
   pub name : IsName r.name
   pub id : r.id ≤ LARGEST_RULE_NUMBER

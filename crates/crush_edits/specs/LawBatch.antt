@@ -7,7 +7,7 @@ use Rattle.crush_edits.specs.declared.edit.Edit.{Edit}
 use Rattle.crush_edits.specs.Setting.{SettingData}
 use Rattle.crush_edits.specs.Batch.{batch_refused, batch_done, batch}
 
--- if a batch isn't refused, it counts all of its edits, and its count of the edits that changed the table isn't greater
+-- if a batch isn't refused, its result has the number of all its edits. The result also has the number of edits that changed the table, which is at most the number of all edits
 abbrev pub BatchCounts : Type 0
 BatchCounts = (s : SettingData) (t u : List Row) (es : List Edit) (d : Dones) → batch s t es ≡ batch_done d u → (d.edits ≡ length es) × (d.changed ≤ length es)
 

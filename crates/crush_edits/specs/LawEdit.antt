@@ -14,7 +14,7 @@ use Rattle.crush_edits.specs.Edit.{after, refusal}
 use Rattle.crush_edits.specs.Batch.{batch_done, batch}
 use Rattle.crush_units.specs.declared.limits.TheConstants.{DEVICE_IDS}
 
--- the device and the location of an edit are valid: the device's id is in range, its name is a name, and the location is valid
+-- the device and the location of an edit are valid: the device's id is in range, its name is a valid name, and the location is valid
 pub record IsPlacing (d : ℕ) (n : List ℕ) (l : List Pair) : Type 0 where
   pub id : d < DEVICE_IDS
   pub name : IsName n

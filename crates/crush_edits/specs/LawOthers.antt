@@ -89,6 +89,6 @@ AddedCounts = (s : SettingData) (t : List Row) (n kind : List ℕ) → (device_c
 abbrev pub AddedFits : Type 0
 AddedFits = (s : SettingData) (t : List Row) (n kind : List ℕ) (k : ℕ) → kind_number s kind ≡ Some k → Fits s t → Fits s (after_add_bucket s t n kind).table
 
--- in any table with 4,096 buckets or more, adding one more, of a known type other than type 0 and with a name that no row has, is refused with NoRoom
+-- if a table has 4,096 buckets or more, then adding a further bucket is refused with NoRoom, if the type of this bucket is known and isn't type 0, and no row has its name
 abbrev pub FullHasNoRoom : Type 0
 FullHasNoRoom = (s : SettingData) (t : List Row) (n kind : List ℕ) (k : ℕ) → kind_number s kind ≡ Some k → (k == 0) ≡ false → is_named t n ≡ false → MOST_BUCKETS ≤ bucket_count t → refusal s t (AddBucket n kind) ≡ Some NoRoom

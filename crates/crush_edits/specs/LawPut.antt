@@ -76,7 +76,7 @@ abbrev pub PutsBoxedNew : Type 0
 PutsBoxedNew = (m : ℕ) (t : List Row) (ps : List StopData) (d : LeafData) → Lawful t → IsRoute t ps → is_there t (Device d.id) ≡ false
     → OnceIds (t ++ rows (receiver t ps) (route_boxes m (device d none) t ps)) × (is_too_heavy (t ++ rows (receiver t ps) (route_boxes m (device d none) t ps)) ≡ is_too_heavy (put t (device_row None d) ps))
 
--- LAWFUL AFTER: if an item of a lawful table is put with the weight w, the result is a lawful table, if four conditions hold. The receiver is neither the item nor below it. With the weight w, the item's row is valid in any bucket. No sum of the result is too large. The result doesn't have too many items
+-- LAWFUL AFTER: putting an item of a lawful table with the weight w gives a lawful table if four conditions hold. The receiver is neither the item nor below it. With the weight w, the item's row is valid in any bucket. No sum of the result is too large. The result doesn't have too many items
 abbrev pub PutKeepsLawful : Type 0
 PutKeepsLawful = (t : List Row) (ps : List StopData) (r : Row) (w : ℕ) → Lawful t → IsRoute t ps → row_of t r.id ≡ Some r → IsApart t r.id ps → ((b : ℕ) → IsRow (record r { parent = Some b; weight = w }))
     → is_too_heavy (put t (record r { weight = w }) ps) ≡ false → has_too_many (put t (record r { weight = w }) ps) ≡ false → Lawful (put t (record r { weight = w }) ps)
@@ -117,7 +117,7 @@ abbrev pub PutMovesOnly : Type 0
 PutMovesOnly = (t : List Row) (ps : List StopData) (r : Row) (n : Items) → Lawful t → IsRoute t ps → fresh_stops t ps ≡ [] → row_of t r.id ≡ Some r → IsApart t r.id ps → has_too_many (put t r ps) ≡ false → IsOne n → Same (rows None n) (part r.id t)
     → Same (table_without r.id t ++ rows (receiver t ps) n) (put t r ps)
 
--- the bucket that the item is put into is still in the table after the new buckets are appended and the item is detached
+-- the bucket into which the item is put is still in the table after the new buckets are appended and the item is detached
 abbrev pub NextStays : Type 0
 NextStays = (t : List Row) (ps : List StopData) (r : Row) → Lawful t → IsRoute t ps → row_of t r.id ≡ Some r → IsApart t r.id ps → has_too_many (t ++ rows_made t ps) ≡ false
     → IfSome (next_place t ps) (λ b. is_there (table_without r.id (t ++ rows_made t ps)) (Bucket b) ≡ true)

@@ -33,7 +33,7 @@ added_stop s n kind = record { kind = unwrap_or (kind_number s kind) 0; name = n
 abbrev pub added_bucket : SettingData → List Row → List ℕ → List ℕ → List NewData
 added_bucket s t n kind = with_ids (free_ids t 1) (added_stop s n kind ∷ [])
 
--- ADD BUCKET: appends the row of the new bucket, which has no parent
+-- ADD BUCKET: appends the row of the new bucket. The new bucket has no parent
 abbrev pub after_add_bucket : SettingData → List Row → List ℕ → List ℕ → After
 after_add_bucket s t n kind = record { table = t ++ chain (added_bucket s t n kind) None; made = 1 }
 

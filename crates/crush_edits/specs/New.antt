@@ -26,7 +26,7 @@ pub record IsRoute (t : List Row) (ps : List StopData) : Type 0 where
   pub once : OnceNamed ps
   pub ends : IfSome (end_id t ps) (λ i. is_device_id i ≡ false)
 
--- a valid new bucket: its id and its type number are in range, the type isn't 0, and its name is a name
+-- a valid new bucket: its id and its type number are in range, the type isn't 0, and its name is a valid name
 pub record IsNew (n : NewData) : Type 0 where
   pub some : 0 < n.id
   pub most : n.id ≤ FARTHEST_BUCKET_ID

@@ -19,7 +19,7 @@ use Rattle.crush_edits.specs.Located.{location_tests, located_device_tests, end_
 abbrev pub put_after : List Row → Row → List StopData → After
 put_after t r ps = record { table = put t r ps; made = length (fresh_stops t ps) }
 
--- the device that an edit puts: with the id, name and weight of the edit, and the class that the device has in the table, if any
+-- the device that an edit puts. It has the id, the name and the weight of the edit. It has the class that the device already has in the table, if it has one
 abbrev pub edited_leaf : List Row → ℕ → List ℕ → ℕ → LeafData
 edited_leaf t d n w = record { id = d; name = n; weight = w; class = class_of t (Device d) }
 
@@ -51,7 +51,7 @@ after_update s t d n w l = if held t (Device d) (stops s l) then kept (set_weigh
 abbrev pub device_put_tests : SettingData → List Row → ℕ → List ℕ → ℕ → List Pair → After → List (Refusal × Bool)
 device_put_tests s t d n w l a = located_device_tests s t d n w l ++ (end_tests t (stops s l) ++ (room_test a ∷ (sum_test a ∷ [])))
 
--- changes nothing if the bucket of the lowest stop holds the item. Otherwise puts the item; in its row, only the parent changes
+-- changes nothing if the bucket of the lowest stop holds the item. Otherwise puts the item, and changes nothing in the item's row except the parent
 abbrev pub move_item : SettingData → List Row → List Pair → ItemId → After
 move_item s t l i = if held t i (stops s l) then kept t else on_some t (row_of t i) (λ r. put_after t r (stops s l))
 

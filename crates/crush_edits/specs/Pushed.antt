@@ -8,13 +8,13 @@ use Rattle.crush_edits.specs.declared.location.Pair.{Pair}
 use Rattle.crush_edits.specs.declared.location.LocationFault.{LocationFault}
 use Rattle.crush_edits.specs.declared.location.LocationFault.TheVariants.{TooMany, BadName, OutOfMemory}
 
--- a valid location: it has at most MOST_PAIRS pairs, and their type names and bucket names are names
+-- a valid location: it has at most MOST_PAIRS pairs, and their type names and bucket names are valid names
 pub record IsLocation (l : List Pair) : Type 0 where
   pub few : length l ≤ MOST_PAIRS
   pub kinds : All (λ (p : Pair). IsName p.kind) l
   pub names : All (λ (p : Pair). IsName p.name) l
 
--- the pair can be added: the location has room for it, and its type name and its bucket name are names
+-- the pair can be added: the location has fewer than MOST_PAIRS pairs, and the type name and the bucket name of the pair are valid names
 pub record CanPush (l : List Pair) (kind name : List ℕ) : Type 0 where
   pub room : length l < MOST_PAIRS
   pub kind_form : IsName kind

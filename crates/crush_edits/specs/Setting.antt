@@ -13,14 +13,14 @@ pub record TunableData : Type 0 where
   pub name : List ℕ
   pub value : ℕ
 
--- a step of a rule. take: the distance of a bucket's id below 0, and a class or none. choose: whether the step also chooses a device below each item (chooseleaf), whether items after a failed one move up (firstn), how many items, and the name of their type. set: the name of a parameter, and its value. emit: outputs the items that were chosen
+-- a step of a rule. take: the distance of a bucket's id below 0, and a class or none. choose: whether the step also chooses a device below each item (chooseleaf), whether the items after a failed item move up to its place (firstn), how many items the step chooses, and the name of their type. set: the name of a parameter, and its value. emit: outputs the items that were chosen
 pub data StepData : Type 0 where
   take : ℕ → Option (List ℕ) → StepData
   choose : Bool → Bool → ℤ → List ℕ → StepData
   set : List ℕ → ℕ → StepData
   emit : StepData
 
--- a rule: its name, its id, the kind of pools that it serves, their smallest and largest size if the rule gives these, and its steps in order
+-- a rule: its name, its id, the kind of pools that it serves, the smallest and the largest size of these pools, if the rule gives these sizes, and its steps in order
 pub record RuleData : Type 0 where
   pub name : List ℕ
   pub id : ℕ

@@ -7,7 +7,7 @@ ghost use Rattle.crush_edits.specs.Keyword.{edit_keyword, keyword_form, keyword_
 use crate::edit::{Edit, Placing};
 
 /// The kind of a command in a script. The first word of a command's line says of which kind the
-/// command is. Each command of these kinds makes one edit.
+/// command is. Each command of one of these kinds makes one edit.
 #[derive(Clone, Copy, Debug, PartialEq, Eq)]
 pub enum Keyword {
     /// `add`, `create-or-move` or `set`.

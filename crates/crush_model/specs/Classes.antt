@@ -10,7 +10,7 @@ use Rattle.crush_model.specs.Columns.{is_part}
 abbrev pub has_class : List ℕ → Row → Bool
 has_class c r = option_eq bytes_eq r.class (Some c)
 
--- what a row adds to the weight of a class: the weight of a device of the class, and 0 for any other row
+-- the weight that a row adds to the weight of a class: the weight of the device if the row is that of a device of the class, and otherwise 0
 abbrev pub classed_weight : List ℕ → Row → ℕ
 classed_weight c r = if has_class c r then summed_weight r else 0
 

@@ -16,13 +16,13 @@ use Rattle.crush_units.specs.declared.limits.TheConstants.{HEAVIEST_DEVICE}
 abbrev pub KeepsLawful : (List Row → List Row) → Type 0
 KeepsLawful change = (t : List Row) → Lawful t → Lawful (change t)
 
--- a placed device may get a new weight, if it is at most that of the heaviest device and no sum exceeds its limit afterwards
+-- a device that is in a bucket may get a new weight, if this weight is at most that of the heaviest device, and no sum exceeds its limit afterwards
 abbrev pub WeightKeepsLawful : Type 0
 WeightKeepsLawful = (t : List Row) (d w : ℕ) → Lawful t → is_placed t (Device d) ≡ true
     → w ≤ HEAVIEST_DEVICE → is_too_heavy (set_weight (Device d) w t) ≡ false
     → Lawful (set_weight (Device d) w t)
 
--- all devices below a bucket may get a new weight, if it is at most that of the heaviest device and no sum exceeds its limit afterwards
+-- all devices below a bucket may get a new weight, if this weight is at most that of the heaviest device, and no sum exceeds its limit afterwards
 abbrev pub SubtreeKeepsLawful : Type 0
 SubtreeKeepsLawful = (t : List Row) (b w : ℕ) → Lawful t → w ≤ HEAVIEST_DEVICE
     → is_too_heavy (set_subtree b w t) ≡ false → Lawful (set_subtree b w t)

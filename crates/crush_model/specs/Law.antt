@@ -12,7 +12,7 @@ use Rattle.crush_model.specs.Stands.{Stands}
 use Rattle.crush_units.specs.declared.limits.TheConstants.{FARTHEST_BUCKET_ID, MOST_BUCKETS, MOST_CLASS_IDS}
 pub use Rattle.crush_model.specs.MoveLaw.{IsOne}
 
--- the weight of a bucket, which is the sum over all devices below it at any depth, equals the sum of the weights of its items
+-- the weight of a bucket equals the sum of the weights of its items. (The weight of a bucket is defined as the sum over all devices below it, at any depth.)
 abbrev pub SumsItems : List Row → Type 0
 SumsItems t = (b : ℕ) → sum_below t b ≡ sum_by (λ i. unwrap_or (weight_of t i) 0) (kids t b)
 

@@ -9,7 +9,7 @@ use Rattle.crush_units.specs.Name.{IsName}
 use Rattle.crush_model.specs.Items.{ShadowData}
 use Rattle.crush_model.specs.Table.{Row, is_there, is_below, sum_below, total, used_ids, device_count, bucket_count}
 
--- a class id is well-formed: its id is in the range of bucket ids (1 to 2^31 below 0), and its class is a name
+-- a class id is well-formed: its id is in the range of bucket ids (1 to 2^31 below 0), and its class is a valid name
 pub record IsShadowId (c : ShadowData) : Type 0 where
   pub some : 0 < c.id
   pub most : c.id ≤ FARTHEST_BUCKET_ID

@@ -36,14 +36,14 @@ abbrev pub is_device_id : ItemId → Bool
 is_device_id (Device d) = true
 is_device_id (Bucket b) = false
 
--- whether two ids are ids of the same item: both of devices or both of buckets, with the same number
+-- whether two ids are ids of the same item: both are ids of devices or both are ids of buckets, and they have the same number
 abbrev pub same_id : ItemId → ItemId → Bool
 same_id (Device a) (Device b) = a == b
 same_id (Bucket a) (Bucket b) = a == b
 same_id (Device a) (Bucket b) = false
 same_id (Bucket a) (Device b) = false
 
--- an item's id is in range: a device's is below 2^31, and a bucket's distance below 0 is from 1 to 2^31
+-- an item's id is in range: the id of a device is below 2^31, and the distance of a bucket's id below 0 is from 1 to 2^31
 abbrev pub IsItemId : ItemId → Type 0
 IsItemId (Device d) = d < DEVICE_IDS
 IsItemId (Bucket b) = (0 < b) × (b ≤ FARTHEST_BUCKET_ID)

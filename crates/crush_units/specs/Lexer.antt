@@ -6,7 +6,7 @@ use Rattle.crush_units.specs.declared.words.Token.{Token}
 use Rattle.crush_units.specs.declared.words.Token.TheVariants as token
 use Rattle.crush_units.specs.Words.{Text, words, first, stopped, ended, bad, is_brace_word}
 
--- the words of the text from the lexer's place on
+-- the words of the text that begin at the lexer's place or after it
 abbrev pub left : Lexer → Text
 left l = words l.place (drop l.place l.text.now)
 

@@ -1,4 +1,4 @@
--- Which weight a text is read as, and which text a weight is printed as. Weights are in units: a weight of 1.0 has 65536 units.
+-- Which weight is read from a text, and which text is printed for a weight. Weights are in units: a weight of 1.0 has 65536 units.
 use Rattle.std.specs.Prelude.{◌≡◌, ℕ, ◌+◌, ◌*◌, ◌/◌, ◌%◌, ◌^◌, ◌<◌, Bool, not, ◌&&◌, ◌||◌, List, ◌∷◌, [], ◌++◌, length, take, drop, Result, Ok, Err, nat_le, ◌==◌, decimal, if◌then◌else◌}
 use Rattle.std.specs.List.{position_or_len, list_all}
 use Rattle.std.specs.Char.{is_ascii_digit}
@@ -50,7 +50,7 @@ number_in text = digits_value_after 10 (digits_value 10 (whole_of text)) (fracti
 abbrev pub weight_of_units : ℕ → Result ℕ WeightFault
 weight_of_units units = if nat_le units HEAVIEST_BUCKET then Ok units else Err TooLarge
 
--- the weight in units that a text is read as, or a fault: Syntax if the text doesn't have the form of a weight, and TooLarge if the rounded number of units is above 4294967295
+-- the weight in units that is read from a text, or a fault: Syntax if the text doesn't have the form of a weight, and TooLarge if the rounded number of units is above 4294967295
 abbrev pub weight_of_text : List ℕ → Result ℕ WeightFault
 weight_of_text text =
     if is_weight_text text
@@ -61,14 +61,14 @@ weight_of_text text =
 abbrev pub digit : ℕ → ℕ
 digit n = 48 + n % 10
 
--- the text that a weight is printed as: the whole part, a point and five digits
+-- the text that is printed for a weight: the whole part, a point and five digits
 abbrev pub weight_text : ℕ → List ℕ
 weight_text units =
     decimal (parts_of units / 100000) ++ 46 ∷ digit (parts_of units / 10000)
     ∷ digit (parts_of units / 1000) ∷ digit (parts_of units / 100) ∷ digit (parts_of units / 10)
     ∷ digit (parts_of units) ∷ []
 
--- the text that any weight is printed as is read as the same weight
+-- the printed text of any weight is read as the same weight
 abbrev pub PrintedIsReadBack : Type 0
 PrintedIsReadBack = (units : ℕ) → units < 2 ^ 32 → weight_of_text (weight_text units) ≡ Ok units
 

@@ -12,9 +12,9 @@ pub fn edits_keep_lawful()
     ensures made { MadeAreBuckets }
 {}
 
-/// If a batch isn't refused, its result counts all edits of the batch, and the count of the edits
-/// that changed the table isn't greater. If a batch is refused, its result has the index of one of
-/// its edits.
+/// If a batch isn't refused, its result has the number of all edits of the batch. The result also
+/// has the number of edits that changed the table, which is at most the number of all edits. If a
+/// batch is refused, its result has the index of one of its edits.
 pub fn batches_count_their_edits()
     ensures counts { BatchCounts }
     ensures stops { BatchStops }

@@ -6,9 +6,10 @@
 
 ghost use Rattle.crush_edits.specs.LawOthers.{WeightsChange, WeightChanges, WeightsFit, NameChanges, NameFits, ClassChanges, ClassFits, SwapChanges, SwapFits, RemoveChanges, RemoveKeepsLawful, RemoveFits, AddedIsRow, AddedChanges, AddedKeepsLawful, AddedCounts, AddedFits, FullHasNoRoom};
 
-/// Setting weights changes the table, unless each of these rows already has its new weight. (The
-/// law about the weight of one item requires a lawful table.) If the map's setting fits the table
-/// before, it also fits the table afterwards.
+/// Setting the weight of some rows changes the table, unless each of these rows already has the new
+/// weight. Setting the weight of one item of a lawful table changes the table, unless the item's
+/// row already has this weight. If the map's setting fits the table before, it also fits the table
+/// afterwards.
 pub fn weights_are_set()
     ensures many { WeightsChange }
     ensures one { WeightChanges }

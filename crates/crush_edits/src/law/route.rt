@@ -24,8 +24,9 @@ pub fn locations_are_routes()
 {}
 
 /// In the tree, the new buckets of a route are nested, each inside the next. These nested buckets
-/// have the rows that the put adds to the table. A lawful table with these rows stays lawful, if it
-/// doesn't have too many items then. These rows change no sum of weights.
+/// have the rows that the put adds to the table. If these rows are appended to a lawful table, the
+/// table stays lawful, unless there are too many items afterwards. The rows change no sum of
+/// weights.
 pub fn new_buckets_are_boxes()
     ensures boxes { BoxesAreRows }
     ensures lawful { NewKeepsLawful }
