@@ -22,7 +22,7 @@ abbrev pub one_changed : Bool → ℕ
 one_changed true = 1
 one_changed false = 0
 
--- the counts after one more edit: whether that edit changed the table, and how many buckets it created
+-- the counts d after one more edit. The other arguments say whether this edit changed the table, and how many buckets it created
 abbrev pub with_done : Dones → Bool → ℕ → Dones
 with_done d changed made = record { edits = d.edits + 1; changed = d.changed + one_changed changed; made = d.made + made }
 

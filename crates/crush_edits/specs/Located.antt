@@ -37,7 +37,7 @@ names_it l n = list_any (λ (p : Pair). bytes_eq p.name n) l
 abbrev pub is_taken : List Row → ItemId → List ℕ → Bool
 is_taken t i n = meets (λ j. not (same_id j i)) (id_named t n) || meets (λ m. not (bytes_eq m n)) (name_of t i)
 
--- whether the item that ends the route has another type than the pair of the location that names it
+-- whether the type of the item that ends the route differs from the type in the location's pair that names the item
 abbrev pub is_wrong_kind : List Row → List StopData → Bool
 is_wrong_kind t ps = meets (λ (p : StopData). meets (λ i. meets (λ k. not (k == p.kind)) (kind_of t i)) (id_named t p.name)) (end_stop t ps)
 
@@ -49,6 +49,6 @@ location_tests s l = (BadLocation, is_bad_location s l) ∷ ((NoSuchType, has_no
 abbrev pub located_device_tests : SettingData → List Row → ℕ → List ℕ → ℕ → List Pair → List (Refusal × Bool)
 located_device_tests s t d n w l = (BadName, names_it l n) ∷ (location_tests s l ++ ((WeightTooLarge, is_heavy w) ∷ ((NameTaken, is_taken t (Device d) n) ∷ [])))
 
--- the refusals that are about the end of a route, with their tests: the item that ends the route is a device; this item has another type than the pair of the location that names it
+-- the refusals that are about the end of a route, with their tests: the item that ends the route is a device; the type of this item differs from the type in the location's pair that names the item
 abbrev pub end_tests : List Row → List StopData → List (Refusal × Bool)
 end_tests t ps = (NotABucket, is_a_device (end_id t ps)) ∷ ((WrongType, is_wrong_kind t ps) ∷ [])

@@ -16,7 +16,7 @@ pub record StopData : Type 0 where
 abbrev pub insert_stop : StopData → List StopData → List StopData
 insert_stop p ps = insert ps (position_or_len (λ (q : StopData). nat_le p.kind q.kind) ps) p
 
--- the stops with the stop of one more pair, which has this type number and this name. If the pair's type is unknown, no stop is added
+-- the stops ps with one more stop, for a pair with this type number and this name. If the pair's type is unknown, no stop is added
 abbrev pub with_stop : Option ℕ → List ℕ → List StopData → List StopData
 with_stop None n ps = ps
 with_stop (Some k) n ps = insert_stop (record { kind = k; name = n }) ps

@@ -28,10 +28,10 @@ pub enum Placing {
 /// variant's comment, brackets have the name of this command and, for most edits, the name of the
 /// function with which Ceph makes the edit.
 ///
-/// The fields `name`, `a`, `b` and `from` are names of items (in `AddBucket`, `name` is the name of
-/// the new bucket), `to` is the new name of a bucket, `kind` is the name of a type, and `class` is
-/// the name of a class. `weight` is the weight of a device, and `at` is the location where an item
-/// is to be put.
+/// The fields `name`, `a`, `b` and `from` are names of items. (In `AddBucket`, `name` is the name
+/// of the new bucket.) `to` is the new name of a bucket, `kind` is the name of a type, and `class`
+/// is the name of a class. `weight` is the weight of a device, and `at` is the location where an
+/// item is to be put.
 #[derive(Debug, PartialEq, Eq, Drop)]
 pub enum Edit {
     /// Puts a device at a location. If the map has no device with this id, the edit creates the

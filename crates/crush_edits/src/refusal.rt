@@ -21,7 +21,7 @@ pub enum Refusal {
     /// The location has a type name or a bucket name twice, or has the name of type 0, the type of
     /// devices, as a type name.
     BadLocation,
-    /// The location or the new bucket names a type that the map doesn't have.
+    /// The location, or an `AddBucket`, names a type that the map doesn't have.
     NoSuchType,
     /// The location has no pairs.
     NoPlace,
@@ -44,8 +44,8 @@ pub enum Refusal {
     /// The edit needs a bucket, and the named item, or the item that the location leads to, is a
     /// device.
     NotABucket,
-    /// The bucket that the location leads to has another type than the location says, or a new
-    /// bucket is to have type 0.
+    /// The bucket that the location leads to has another type than the location says, or the new
+    /// bucket of an `AddBucket` would have type 0.
     WrongType,
     /// The bucket that the location leads to is the moved item itself, or is below it.
     Loop,

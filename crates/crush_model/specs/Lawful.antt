@@ -52,7 +52,7 @@ pub record IsRow (r : Row) : Type 0 where
 abbrev pub HasParent : List Row → Row → Type 0
 HasParent t r = IfSome r.parent (λ p. is_there t (Bucket p) ≡ true)
 
--- LAWFUL: no two rows have the same id or the same name; all bucket ids and class ids together are distinct; each row is well-formed; each parent is a bucket of the table; no bucket is below itself. Each bucket's sum, the total, the number of devices and the number of buckets are within their limits
+-- LAWFUL: no two rows have the same id or the same name; no number is twice among the bucket ids and the class ids; each row is well-formed; each parent is a bucket of the table; no bucket is below itself. Each bucket's sum, the total, the number of devices and the number of buckets are within their limits
 pub record Lawful (t : List Row) : Type 0 where
   pub ids : (i : ItemId) → count_by (λ (r : Row). same_id r.id i) t ≤ 1
   pub names : (n : List ℕ) → count_by (λ (r : Row). bytes_eq r.name n) t ≤ 1

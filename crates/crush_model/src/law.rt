@@ -93,9 +93,9 @@ pub fn free_ids_are_free()
     ensures few { FewIdsAreUsed }
 {}
 
-/// The law that the test of sums has equal results on two tables that are the same, and that the
-/// test of the numbers of devices and buckets also has equal results on them. The tables need not
-/// be lawful. For the test of sums, no id may be in a table twice.
+/// The law that two tests have equal results on tables that are the same: the test whether a sum or
+/// the total is too large, and the test whether there are too many devices or buckets. The tables
+/// need not be lawful. For the test of sums, no id may be in a table twice.
 pub fn tests_are_alike()
     ensures sums { HeavyIsAlike }
     ensures room { RoomIsAlike }

@@ -1,4 +1,4 @@
--- The ids of devices, buckets and items as numbers. A device's id is its number; a bucket's id is its distance below 0, so that bucket 1 is the one that a map shows as -1.
+-- The ids of devices, buckets and items as numbers. In contracts, the id of a device is its number, and the id of a bucket is its distance below 0. So bucket 1 is the bucket with the id -1 in a map.
 use Rattle.std.specs.Prelude.{ℕ, suc, ◌-◌, ℤ, pos, negsuc, Bool, true, false, ◌&&◌, ◌==◌, ◌<◌, ◌≤◌, nat_lt, nat_le, Option, Some, None, if◌then◌else◌}
 use Rattle.crush_units.specs.declared.id.ItemId.{ItemId}
 use Rattle.crush_units.specs.declared.id.ItemId.TheVariants.{Device, Bucket}

@@ -16,8 +16,8 @@ pub fn least_refusal_is_told()
     ensures none { NoneIsTold }
 {}
 
-/// The tests of an edit can be made group by group. The first group in which a test refuses the
-/// edit decides for which reason the edit is refused.
+/// The tests of an edit can be done group by group. The first group in which a test holds decides
+/// for which reason the edit is refused.
 pub fn groups_are_asked_in_turn()
     ensures nothing { NothingIsTold }
     ensures passes { GroupPasses }
