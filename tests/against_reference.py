@@ -1,16 +1,33 @@
-"""Runs jobs of chance, mutations of them and prefixes of them by crushedit, in turn and at once, and compares
-status, standard error and what is printed with what a plain model says.
+"""Runs random and stored jobs with crushedit, and compares status, standard error and output with a plain model.
 
     python3 tests/against_reference.py crates/crushedit/out/crushedit [JOBS [SEED]]
 
-The model (`model.py`, and `reading.py`, which reads jobs) is written from docs/ alone. Jobs are of random maps and
-scripts, of sixteen operators, and those of examples/, the refused ones too, as crush_examples has them: these have
-tunables, rules and classes. In turn all bytes are compared. At once the history may be another each time: the model
-makes the calls in its order (`at_once.py`). Where the program has the words `--tree`, `--since MAP`, `--as-ceph`,
-`--strict`, `--explain` and `--script`, half of the runs have some of them (`looking.py` and `explained.py` say what
-comes then); else that is told. Each run in turn is made once more with `--no-make`. With the last two there comes to
-each job one whose scripts are in files, half of these jobs with one faulty line and many with weights of buckets that
-aren't the sums. The seed may be any word; without one it is drawn. It is printed, and the same seed makes the same jobs.
+A *job* is the text of a map, followed by the scripts of operators. The *plain model* is a second implementation of
+the program, in Python, which was written from docs/ alone. Its main module is `model.py`, and its module `reading.py`
+reads jobs.
+
+Without JOBS, the test draws 1,000 jobs. SEED may be any word, and the same seed gives the same jobs. Without SEED,
+the test draws a random seed. The test prints the seed at the end, or together with the first difference.
+
+The test draws random jobs, jobs of sixteen operators, and the jobs that the crate crush_examples stores. The stored
+jobs are those of examples/, also those that the program refuses. They have tunables, rules and classes. For each job,
+the test also runs two changed copies. In the first copy, a *mutation*, some words, lines or bytes are changed. The
+second copy, a *prefix*, is only the beginning of the job. With each job, the test also runs a random job whose
+scripts are in files of their own. In half of these jobs, a faulty line is inserted. In many of these jobs, the text
+has weights of buckets that aren't the sums of the weights of their items.
+
+Half of these jobs and copies run with random options: `--tree`, `--since MAP`, `--as-ceph`, `--strict`, `--explain`,
+`--script` and `--no-history`. The modules `looking.py` and `explained.py` compute what the program must print with
+these options. If the program doesn't have one of the first six options, the test prints this, and runs without the
+option. If the program lacks `--explain` or `--script`, the test runs no jobs whose scripts are in files.
+
+The test runs each job in turn (`--in-turn`), in turn with `--no-make`, and at once. *In turn* means that the scripts
+run one after the other. In these runs, all bytes must be those of the model. *At once* means that each script has its
+own thread, so the history may differ from run to run. The model then makes the calls in the order of the history that
+the program has printed (`at_once.py`).
+
+At the end, the test prints how many jobs ended in which way, and how often each refusal occurred. If a run differs
+from the model, the test prints the job and the difference, and ends with status 1.
 """
 
 import collections
@@ -30,7 +47,8 @@ from model import Map, run_call
 from reading import joined, outcome, read_job, read_since
 
 DATA = pathlib.Path(__file__).resolve().parent.parent / "crates/crush_examples/data"
-# What a mutation puts into a job: words and bytes that are due somewhere, or nowhere, and numbers out of range.
+# What a mutation may insert into a job: words and bytes, of which some may stand in a job and others may not, and
+# numbers at the limits of their ranges and beyond.
 PIECES = [
     " ", "\t", "\n", "\r", "#", "{", "}", " { ", " } ", "$", "\0", "\x1f", "\x7f", "\xe9", "=", "%", ".", "-", "_",
     "\n%operator a\n", "\n%operator zz\n", "\nbegin\n", "\ncommit\n", "\nrm x\n", "\nfly\n", " host=h1", " x=y",
@@ -41,7 +59,8 @@ PIECES = [
     "0", "00", "1", "-0", "-1", "4294967295", "4294967296", "2147483647", "2147483648", "-2147483648", "-2147483649",
     "65535", "65536", "32767.99998", "32767.99999", "65535.99999", "65536.0", ".5", "5.", "0.0000001", "01234567890",
 ]
-# Words that are written for a bucket's weight, and lines that make a script or a map's text a faulty one.
+# WRITTEN has words that replace the written weight of a bucket. FAULTY has lines that are errors in a script, and
+# FAULTY_OF_MAPS has lines that are errors in the text of a map.
 WRITTEN = ["0", "1", "00001.50", "0.333", "2.500000000000000000", "65535.99998", "0.00001"]
 FAULTY = [
     "fly", "\tfly osd.1 # so", "reweight osd.0", "rm", "rm " + "a" * 90 + " b", "%", "%operator", "%operator a b",
@@ -70,7 +89,7 @@ def with_a_piece(dice, text):
 
 
 def with_another_word(dice, text):
-    """A word gives way to another of the job, or to a piece."""
+    """Replaces a word, or the blanks between two words, with another word or blanks of the job, or with a piece."""
     words = re.split(r"(\s+)", text)
     words[place(dice, words[1:])] = dice.choice([dice.choice(words), dice.choice(PIECES)])
     return "".join(words)
@@ -119,31 +138,36 @@ def run(program, flags, text, folder=None):
 
 
 def words_of(program):
-    """Which words the program has that print something else than a map, or make a run strict."""
+    """Returns which of the tested options the program has."""
     asked = {"--tree": [], "--since": [os.devnull], "--as-ceph": [], "--strict": [], "--explain": [], "--script": [os.devnull]}
     return {word for word, more in asked.items() if run(program, [word, *more], "")[0] == 0}
 
 
 def any_words(dice, there):
-    """Words of the command line, of those that are there; of those that print something else than a map at most one."""
+    """Returns random options that the program has. At most one of them makes the program print something else than a
+    map."""
     shown = dice.choice([[], ["--tree"], ["--tree"], ["--since"], ["--since"], ["--as-ceph"]])
     words = [word for word in ["--no-history", "--strict", "--explain", "--script"] if dice.randint(0, 2) == 0] + shown
     return [word for word in words if word in there | {"--no-history"}]
 
 
 def any_map_text(dice, text):
-    """A map to compare with: that of the job, perhaps changed, or another."""
+    """Returns the text of a map for `--since`. This is the map of the job, a mutation of this map, or another random
+    map."""
     own = text.partition("\n%")[0] + "\n"
     return dice.choice([own, own, mutated(dice, own), random_map(dice).text(), random_map(dice).text()])
 
 
 def is_line_of(line, calls):
-    """Whether a history line is of one of these calls, each with its operator's name before it."""
+    """Returns whether a history line is the line of one of these calls. The call must be refused. Each call is a text
+    that begins with the name of its operator."""
     return line.split(" ", 2)[2].partition(" = refused ")[0] in calls
 
 
 def refusals_fault(printed, refused, scripts):
-    """What is wrong with the end of a strict run at once, of whose history only these refused lines are told."""
+    """Returns what is wrong with a strict run at once that ended with status 5, or None. Such a run must print
+    nothing. Of its history, only the lines of refused calls are known, from standard error. There must be such lines,
+    each must belong to a call of the scripts, and their numbers must ascend."""
     if printed or not refused:
         return f"at once: printed {printed!r}, {len(refused)} refused"
     calls = {f"{name} {run_call(Map({}), call, 0)[1].partition(' = ')[0]}" for name, made in scripts for call in made}
@@ -154,8 +178,10 @@ def refusals_fault(printed, refused, scripts):
 
 
 def told_fault(told, refused, words, adjusted, text, files):
-    """What is wrong with what a strict run at once tells, of whose history only these refused lines are known: with
-    --explain a line below each has the form of its reason, which only the map at that point tells."""
+    """Returns what is wrong with standard error of a strict run at once that ended with status 5, or None. Of the
+    history of such a run, only the lines of refused calls are known. With --explain, a line with the reason follows
+    each refused line. The reason depends on the map at this point of the run, which isn't known. So the test only
+    checks that the reason has the right form."""
     lines = told.splitlines(keepends=True)
     below = reasons(words, None, [], adjusted, text, files) if "--explain" in words else ""
     front, pairs = lines[0], lines[1 : len(lines) - len(below.splitlines())]
@@ -169,8 +195,8 @@ def told_fault(told, refused, words, adjusted, text, files):
 
 
 def at_once_fault(text, files, ran, words, since):
-    """What is wrong with a run at once of a job that has no fault. The history may be another each time: what is told
-    of it has to be of its lines."""
+    """Returns what is wrong with a run at once of a job without errors, or None. The history may differ from run to
+    run. So the output and standard error are compared with what the model computes for the history of this run."""
     status, printed, told = ran
     read, adjusted, scripts = read_job(text)
     if status == 5 and "--strict" in words:
@@ -189,11 +215,13 @@ def at_once_fault(text, files, ran, words, since):
 
 
 def parted(text):
-    """The text up to its sections, and for each of these, up to sixteen, the name of a file and what it has, which make
-    the same job behind it. A file is called by its operator, and has no line of it, where that can be."""
+    """Splits a job into the text before its sections, and a file for each section. Returns this text, and a list with
+    the name and the content of each file. There are at most sixteen files, so the last file may have several
+    sections. The text and the files together are the same job again. If possible, a file is named after its operator,
+    and then the file doesn't have the line `%operator`."""
     front, *sections = re.split(r"(?m)^(?=%)", text)
     if not front:
-        return text, []  # behind an empty text a line feed would come
+        return text, []  # after an empty text, the program would add a line feed
     scripts = []
     for number, section in enumerate(sections[:16]):
         head = re.match(r"%operator ([A-Za-z0-9_-]+)\n(?=[ \t]*[a-z])", section)
@@ -205,13 +233,15 @@ def parted(text):
 
 
 def any_name(dice, number):
-    """The name of a script's file: it may be of an operator that others are called by too, or of none."""
+    """Returns a random name for the file of a script. Most names are the name of an operator and `.txt`. Several
+    files may have the same operator's name, and some names can't be used as an operator's name."""
     name = dice.choice([f"op{number}.txt"] * 32 + [f"op{number}", f"op{number}.b.txt", "my script.txt", "a#b.txt", ".txt", "same"])
     return dice.choice(["", f"{number}/", f"./{number}/"] if name.startswith("op") else [f"{number}/"]) + name
 
 
 def any_script(dice, map, number):
-    """What a script's file has: perhaps lines without words first, a line of its operator, and no line feed last."""
+    """Returns the text of a random script. The text may begin with lines without words, may then have a line that
+    names the operator, and may end without a line feed."""
     calls = "".join(call_lines(dice, random_call(dice, map)) for _ in range(dice.randint(0, 4)))
     own = f"%operator own{number}\n"
     head = dice.choice(["", "# a script\n", " \t\r\n\n", "#%\n", " # so\r\n"])
@@ -221,20 +251,23 @@ def any_script(dice, map, number):
 
 
 def with_other_weights(dice, text):
-    """Items that are buckets get weights that mostly aren't the sums, or are their sums in other words."""
+    """Replaces the weights that the text has for buckets inside other buckets. Most of the new weights aren't the
+    sums of the buckets' items. Some are the same sums, with or without a further zero at the end."""
     return re.sub(r"(?m)^(\titem (?!osd|disk)\S+ weight )(\S+)",
                   lambda found: found[1] + dice.choice([*WRITTEN, found[2], found[2] + "0"]), text)
 
 
 def with_a_line(dice, text, lines):
-    """One of these lines is put between two of the text's."""
+    """Inserts one of these lines into the text, before, between or after its lines."""
     own = text.splitlines(keepends=True)
     at = place(dice, own)
     return "".join(own[:at]) + dice.choice(lines) + "\n" + "".join(own[at:])
 
 
 def any_files(dice):
-    """A job and scripts of files behind it, one of which may have a faulty line, or a batch that doesn't end."""
+    """Returns the text of a job, and a list of scripts in files that follow it. In half of the cases, a line that is
+    an error, such as a `begin` without `commit`, is inserted into the text or into one of the scripts. Some weights
+    of the text are replaced (`with_other_weights`)."""
     map = random_map(dice)
     text = dice.choice([map.text()] * 6 + [map.text()[:-1], map.text() + "%operator own\nrm x\n", "", "\n"])
     scripts = [(any_name(dice, number), any_script(dice, map, number)) for number in range(dice.randint(1, 5))]
@@ -251,7 +284,8 @@ Case = collections.namedtuple("Case", "text words since name scripts")
 
 
 def flags_of(case):
-    """The words of the command line, with the names of files behind theirs, and of the job's last, if it has one."""
+    """Returns the arguments of the command line: the options with the names of their files, and then the name of the
+    job's file, if the job is in a file."""
     more = {"--since": [["--since", "MAP"]], "--script": [["--script", name] for name, _ in case.scripts]}
     flags = [flag for word in case.words for part in more.get(word, [[word]]) for flag in part]
     return flags + [case.name] * (case.name != "")
@@ -265,7 +299,8 @@ def write_files(folder, case):
 
 
 def difference(program, case, due):
-    """What the program does otherwise than the model, which says what is due in turn, or nothing."""
+    """Runs a case in turn, in turn with --no-make, and at once. Returns how the program differs from the model, or
+    None. `due` is the result of the model for the run in turn."""
     flags, given = flags_of(case), "" if case.name else case.text
     with tempfile.TemporaryDirectory() as folder:
         write_files(folder, case)
@@ -284,8 +319,10 @@ def difference(program, case, due):
 
 
 def any_case(dice, own, text, there):
-    """A job as it is run: half of them with words, of those with scripts of files half in a file too. What `own` draws
-    changes no job."""
+    """Returns a job with random options and files. Half of the jobs have options. If `--script` is among the options,
+    the scripts are moved into files. Half of the jobs are in a file, and the others come from standard input. `own`
+    is a separate source of random numbers, so that the choice between file and standard input doesn't change the
+    following jobs."""
     words = any_words(dice, there) if dice.randint(0, 1) else []
     since = any_map_text(dice, text)
     text, scripts = parted(text) if "--script" in words else (text, [])
@@ -293,7 +330,8 @@ def any_case(dice, own, text, there):
 
 
 def cases(seed, index, there, examples, refused):
-    """A job, a mutation and a prefix of it; and, where the program has the words, one in files, mostly explained."""
+    """Yields a job, a mutation of the job, and a prefix of the job. If the program has the options `--script` and
+    `--explain`, also yields a job whose scripts are in files. Most of these last jobs have the option `--explain`."""
     dice, own = Dice(f"{seed} {index}"), Dice(f"{seed} {index} files")
     job = any_job(dice, examples, refused)
     for name, text in (("job", job), ("mutation", mutated(dice, job)), ("prefix", prefix(dice, job))):
@@ -306,7 +344,8 @@ def cases(seed, index, there, examples, refused):
 
 
 def lines_told(case, told):
-    """What is counted of the lines that standard error is told: places in files, and weights that were written."""
+    """Yields how many lines on standard error name a place in the file of a script, and how many say that a weight in
+    the text isn't the sum."""
     names = "|".join(re.escape(name) for name, _ in case.scripts)
     yield "places in scripts", len(re.findall(rf"(?m)^  (?:{names}) line \d", told)) if names else 0
     yield "weights written", told.count(" was written, the sum is ")
