@@ -1,27 +1,37 @@
 #!/usr/bin/env python3
-"""Writes the examples into what the program crush_examples runs, and what each run has to come to.
+"""Copies the examples into the data of the program crush_examples, with the expected result of each run.
 
-Each NAME.job of examples/, and of maps/ and worked/ there, has a NAME.out, which must be written for it, and, if standard
-error must get anything, a NAME.err. It becomes a file of crates/crush_examples/data, and, for each mode that it is
-run in, a line of `jobs` there and a part of `expected`, which the program compares with what the run writes: of
-that the crate's `stdout` has one short line. A NUL byte stands between two parts, so that grep takes `expected` for
-a binary file and shows nothing of it.
+    python3 tests/as_tests.py [--check]
 
-A job of several operators is run with --in-turn, since without it there may be several outputs; others are run
-without. A job of at_once/ has them all, a NAME.OPERATOR.out for each operator whose script may be the first: there
-the job is run in turn with that operator's section before the others (NAME.OPERATOR.job). A job of asked/ is run
-with each line of NAME.words before its name, beside the files NAME.txt there, and NAME.status has the status where
-a run that is done ends with another than 0. What is written has the history, which is left out of it for a line
-with --no-history. Of an example of examples/ or of maps/ that is no refused one, what is written is run again and
-gives the same map (NAME.again.job), and the job's map alone is printed as it is, or, where there is a NAME.map, as
-that (NAME.alone.job). What a run is summed up as is counted here from the history.
+Without --check, the script writes the files of crates/crush_examples/data and the file `stdout` of this crate, and
+removes all other files of the folder data. With --check, the script writes nothing, and the status is 1 if the crate
+has other files or other bytes.
 
-Each row of a table of refused/ is a job that is refused; these are one file, `records`, in which a record separator
-stands between two, with a part of `expected` each, and one line of `stdout` for them all. Behind them stand jobs of
-chance, of one seed, with what the plain model of tests/model.py prints of them. The file `growths` has jobs that
-the program runs with each growth refused in turn, each with what it comes to.
+A *job* is the text of a map, followed by the scripts of operators. Each NAME.job in examples/, and in the folders
+maps/ and worked/ there, has a NAME.out, which is the expected output. If something is expected on standard error,
+there is also a NAME.err. Each job becomes a file of crates/crush_examples/data. For each run of a job, the file
+`jobs` has a line with the options and the name of the job, and the file `expected` has a part. The program compares
+what the run writes with this part. For each run, the file `stdout` of the crate has one short line. Between two parts
+of `expected` is a NUL byte, so that grep considers `expected` a binary file, and doesn't show lines of it. A part
+also has a summary of the run, which this script counts from the history in NAME.out.
 
-With --check nothing is written, and the status is 1 where the crate has other files or other bytes.
+- A job of several operators runs with --in-turn, because it may have several outputs without --in-turn. Other jobs
+  run without this option.
+- For each job of examples/ and maps/ whose NAME.out isn't empty, there are two more runs. NAME.again.job is the
+  output, which the program runs once more: the map must stay the same. NAME.alone.job is the map of the job without
+  scripts. The program must print this map unchanged, or print NAME.map if this file exists.
+- For a job of at_once/, there are several possible outputs. NAME.OPERATOR.out is the output if the script of OPERATOR
+  runs first. For each of these outputs, NAME.OPERATOR.job has the section of OPERATOR before the other sections, and
+  runs with --in-turn.
+- A job of asked/ runs once for each line of NAME.words, with the options of this line. The output has the history,
+  but a run with --no-history must leave out the history. If the runs succeed with another status than 0, NAME.status
+  has this status. The files *.txt of this folder are copied too, because some of the options name them.
+- In a table of refused/, each row is the end of a job that is refused. The file `records` has all these jobs, and
+  after them random jobs of one seed. The plain model of tests/model.py computes the output of the random jobs.
+  Between two jobs is a record separator. `expected` has a part for each job, and `stdout` has one line for all of
+  them.
+- The file `growths` has jobs with their outputs. The program runs each of these jobs many times. In the first run,
+  the first request for memory is refused, in the second run the second request, and so on.
 """
 import json
 import pathlib
@@ -35,18 +45,19 @@ from chance import numbered  # noqa: E402
 from reading import read_map  # noqa: E402
 
 CRATE = TOP / "crates/crush_examples"
-# What stands between two jobs of one file: no text and no command has it.
+# Separates two jobs in the files `records` and `growths`. No job contains this byte.
 SEPARATOR = "\x1e"
-# What stands between the parts of a job of `growths`.
+# Separates the parts of a job in the file `growths`.
 GROWTH_SEPARATOR = "\x1f"
-# What stands between what two runs come to.
+# Separates the expected results of two runs in the file `expected`.
 EXPECTED_SEPARATOR = "\0"
-# What standard error is told first of a run that was not done, where the status is another than 1.
+# If a run prints no output, and its standard error begins with one of these texts, the run ends with this status.
+# With any other standard error, such a run ends with status 1.
 STATUSES = {"crushedit: refused ": 5, "crushedit: made ": 5, "crushedit: differs ": 5, "crushedit: read fault": 3,
             "crushedit: to: read fault": 3}
-# How many jobs of chance there are, and of which seed.
+# The number of random jobs, and their seed.
 CHANCE, SEED = 200, 1
-# The words before a job's name, for each run of a job that has more than one.
+# For a job that runs more than once: the options of each run, which stand before the job's name.
 MODES = {"each_mode": ["", "--in-turn ", "--in-turn --no-history "]}
 
 
@@ -55,27 +66,27 @@ def read(path):
 
 
 def lines_before(text, begin):
-    """The lines before the first one that begins like this."""
+    """Returns the lines before the first line that begins with this regular expression."""
     return re.split(f"(?m)^{begin}", text, maxsplit=1)[0]
 
 
 def sections(job):
-    """The sections of a job, each with the line that begins it."""
+    """Returns the sections of a job, each with the line `%operator` that begins it."""
     return re.findall(r"(?ms)^%.*?(?=^%|\Z)", job)
 
 
 def mode(job):
-    """The words before a job's name: the scripts of several operators run in turn, for one output."""
+    """Returns the options of a job. The scripts of several operators run in turn, so that there is only one output."""
     return "--in-turn " if len(sections(job)) > 1 else ""
 
 
 def document_of(out):
-    """What is written, where it is a document, and else nothing."""
+    """Returns the JSON document of an output, or an empty dictionary if the output isn't a document."""
     return json.loads(out) if out.startswith("{") else {}
 
 
 def map_of(out):
-    """What is written but for the history."""
+    """Returns an output without its history."""
     if document := document_of(out):
         document.pop("history")
         return json.dumps(document, separators=(",", ":")) + "\n"
@@ -83,14 +94,16 @@ def map_of(out):
 
 
 def history_of(out):
-    """The lines of the history."""
+    """Returns the history lines of an output. If the output is a document, the lines have neither numbers nor names
+    of operators."""
     if document := document_of(out):
         return [f"# {entry['call']} = {entry['reply']}" for entry in document["history"]]
     return out[len(map_of(out)) :].splitlines()
 
 
 def summary(out, err):
-    """How many weights were replaced, how many calls there were, and how many of them changed the map."""
+    """Returns the summary of a run: how many weights were replaced, how many calls there were, and how many of the
+    calls changed the map or created buckets."""
     adjusted = re.match(r"crushedit: adjusted (\d+)\n", err)
     history = history_of(out)
     changes = [re.search(r" = (?:done|dones \d+) changed (\d+) made (\d+)$", line) for line in history]
@@ -99,15 +112,17 @@ def summary(out, err):
 
 
 def expected(words, out, err, done=0):
-    """What a run by these words comes to, which ends with this status if it is done. Of a job or a strict run that is
-    refused nothing is written."""
+    """Returns the expected result of a run with these options, as a part of `expected`. `done` is the status of a run
+    that has an output. A run that is refused or fails has no output, and its status follows from its standard error
+    (STATUSES)."""
     status = next((status for told, status in STATUSES.items() if err.startswith(told)), 1)
     ending = f"< {summary(out, err)}\n{err}< status {done}\n" if out else f"< not done\n{err}< status {status}\n"
     return f"{map_of(out) if '--no-history' in words else out}{ending}"
 
 
 def runs(job):
-    """The runs of an example: the words before the job's name, its name and bytes, and what it must write and tell."""
+    """Yields the runs of an example. A run is a tuple: the options, the name and the bytes of the job, the expected
+    output, and the expected standard error."""
     name, text, out, err = job.stem, read(job), read(job.with_suffix(".out")), read(job.with_suffix(".err"))
     assert job.with_suffix(".out").exists(), f"{job.name} has no output"
     for words in MODES.get(name, [mode(text)]):
@@ -119,7 +134,9 @@ def runs(job):
 
 
 def asked(job):
-    """The runs of a job of asked/, one for each line of words, which all come to one output or are all refused."""
+    """Yields the runs of a job of asked/, one for each line of options. All these runs have the same output (but
+    without history if there is --no-history), or all are refused. The last member of a run is its status if there is
+    an output."""
     text, out, err = read(job), read(job.with_suffix(".out")), read(job.with_suffix(".err"))
     done = int(read(job.with_suffix(".status")) or 0)
     for words in read(job.with_suffix(".words")).splitlines():
@@ -127,7 +144,8 @@ def asked(job):
 
 
 def orders(job):
-    """The runs in turn that a job of at_once/ may come to, with another operator's section first in each."""
+    """Yields the runs in turn that give the possible outputs of a job of at_once/. In each run, another operator's
+    section comes first."""
     text = read(job)
     for out in sorted(job.parent.glob(f"{job.stem}.*.out")):
         first = f"%operator {out.stem.rpartition('.')[2]}\n"
@@ -137,14 +155,16 @@ def orders(job):
 
 
 def spelled(text):
-    """The text that a table writes in ASCII: with escapes, `@` for a word that is too long, `~` for the longest."""
+    """Returns the text that a table spells in ASCII. The table has escapes of Python, `@` for a word that is too
+    long, and `~` for a word of the greatest length."""
     return text.encode("ascii").decode("unicode_escape").replace("@", "0" * 256).replace("~", "a" * 255)
 
 
 def refused(table):
-    """The jobs of a table of refused/, each with what standard error is told: each row is a job by itself behind
-    the prefix above it, refused for the fault above it, which is told where `^` stands, or, where the line names
-    its place, as it stands."""
+    """Yields the jobs of a table of refused/, each with its standard error. A row that begins with two blanks is the
+    end of a job. The nearest `prefix` above the row, with the lines `lines` after it, is the beginning of the job.
+    The nearest line above that names an error says why the job is refused. If this line also names a place, it is
+    exactly what the program reports. Otherwise the program reports the error at the byte that `^` marks in the row."""
     prefix, fault = "", ""
     for line in read(table).split("\n"):
         word, _, rest = line.partition(" ")
@@ -162,7 +182,7 @@ def refused(table):
 
 
 def each_run():
-    """The runs of command lines."""
+    """Yields the runs of the file `jobs`."""
     jobs = [job for folder in (EXAMPLES, EXAMPLES / "maps", EXAMPLES / "worked") for job in sorted(folder.glob("*.job"))]
     at_once = sorted((EXAMPLES / "at_once").glob("*.job"))
     asked_for = sorted((EXAMPLES / "asked").glob("*.job"))
@@ -174,15 +194,16 @@ def each_run():
 
 
 def each_record():
-    """The jobs of `records`, each with what is written and told of it."""
+    """Yields the jobs of the file `records`, each with its output and its standard error."""
     for table in sorted((EXAMPLES / "refused").glob("*.txt")):
         yield from ((text, "", err) for text, err in refused(table))
     yield from ((text, out, "") for text, out in numbered(CHANCE, SEED))
 
 
 def each_growth():
-    """The jobs of `growths`: each of examples/ and of worked/ whose output has its whole history and is the only one,
-    as its name, its map's text, that map as the plain model prints it, the job and the output."""
+    """Yields the jobs of the file `growths`: the jobs of examples/ and worked/ that have an output. Each of them has
+    only one possible output, which has the whole history. The parts of a job are its name, the text of its map, the
+    map as the plain model prints it, the job itself, and the output."""
     for job in [job for folder in (EXAMPLES, EXAMPLES / "worked") for job in sorted(folder.glob("*.job"))]:
         text, out = lines_before(read(job), "%"), read(job.with_suffix(".out"))
         if out:
@@ -190,13 +211,13 @@ def each_growth():
 
 
 def joined(separator, parts):
-    """The parts as one text, in which this stands between two."""
+    """Returns the parts as one text, with the separator between two parts. No part may contain the separator."""
     assert not any(separator in part for part in parts), f"a part has {separator!r}"
     return separator.join(parts)
 
 
 def wanted():
-    """What each file of the crate that is written here has to hold."""
+    """Returns the text of each file of the crate that this script writes, by its path."""
     run, records, growths = list(each_run()), list(each_record()), list(each_growth())
     lines = [f"{words}{name}" for words, name, *_ in run]
     parts = [expected(words, *told) for words, _, _, *told in run] + [expected("", *told) for _, *told in records]

@@ -1,20 +1,31 @@
-"""Runs jobs of sixteen operators at once by crushedit, and looks whether what is printed is what the plain
-model of model.py prints when it makes the calls one after the other, in the order of the history.
+"""Runs the scripts of sixteen operators at once with crushedit, and compares the result with the plain model.
 
     python3 tests/at_once.py crates/crushedit/out/crushedit [JOBS [SEED]]
     python3 tests/at_once.py --model [JOBS [SEED]]
 
-Of each job the lines of each operator have to be the calls of its script, all of them and in order; each
-reply has to be the model's at that point; and the map has to be the model's after them all. Prints how many
-jobs agreed, and how often a line is another operator's than the line before, for each line.
+A *job* is the text of a map, followed by the scripts of operators. A *call* is a command, or a batch of commands.
+Each script runs in a thread of its own, so the order of the calls may differ from run to run. The program prints the
+map, and then the *history*, which has a line for each call with its reply. The *plain model* of model.py, a second
+implementation in Python, makes the calls one after the other, in the order of this history. Without JOBS, the test
+runs 1,000 jobs. Without SEED, it draws a random seed.
 
-By itself one thread makes nearly all its calls before the next begins. So a library is preloaded whose `malloc` and
-`syscall`, which takes and leaves the lock, yield the processor to another thread; it needs a C compiler, `cc`, `gcc`
-or what CC names. Where there is none, runs go without, which is told. Where in a job of many calls fewer than one
-line in FEWEST is another operator's, too little was tried: status 1.
+The history lines of each operator must be exactly the calls of the operator's script, in the order of the script.
+Each reply must be the reply of the model at this point of the history. The printed map must be the map of the model
+after all calls.
 
-With --model the model makes the calls of each job in an order of chance in place of the program, and what it
-prints has to agree; with a reply, a call or a weight of the map that is another it must not.
+Usually, one thread makes nearly all its calls before the next thread begins. So the test loads a small library into
+the program (LD_PRELOAD). In this library, the functions `malloc` and `syscall` let another thread run. The lock of
+the program uses `syscall`. To compile the library, the test needs a C compiler: the one that the environment variable
+CC names, or `cc`, or `gcc`. Without a compiler, the test runs without the library, and says so.
+
+A *switch* is a history line that comes after a line of another operator. The first line of each operator doesn't
+count as a switch. The test prints how many jobs agree, and the number of switches per history line. The status is 1
+if a job doesn't agree with the model, or if a run fails. The status is also 1 if the test uses the library, and fewer
+than one in FEWEST lines of all jobs is a switch. The calls have then hardly mixed, so the test has tested too little.
+
+With --model, the test tests itself, without the program. The model makes the calls of each job in a random order, and
+the test must accept the output of the model. The test must reject copies of this output in which a reply, a call or
+the map is changed, or the last line is missing.
 """
 
 import os
@@ -60,7 +71,7 @@ END = "# end crush map\n"
 
 
 def random_scripts(dice):
-    """A map, and the calls of each operator, which are of its items and of others."""
+    """Returns a random map, and random calls for each operator. The calls name items of the map, and other items."""
     map = random_map(dice)
     calls = {name: dice.randint(0, MOST_CALLS) for name in OPERATORS}
     return map, {name: [random_call(dice, map) for _ in range(count)] for name, count in calls.items()}
@@ -73,14 +84,15 @@ def job_text(dice, map, scripts):
 
 
 def parts(lines):
-    """Of lines of a history the number, the operator, the call and the reply."""
+    """Yields the number, the operator, the call and the reply of each history line."""
     for line in lines:
         front, _, reply = line.partition(" = ")
         yield (*(front.split(" ", 3) + [""] * 4)[1:4], reply)
 
 
 def fault_of(map, scripts, printed, words=(), since=None):
-    """What is wrong with what was printed, by these words of the command line, or nothing."""
+    """Returns what is wrong with the output of a run with these options, or None. `map` is the map before the calls,
+    and `since` is the map of `--since`."""
     read, left, changes, made = map, {name: list(calls) for name, calls in scripts.items()}, 0, []
     text, history = history_of(printed, sum(len(calls) for calls in left.values()))
     for place, (number, operator, call, reply) in enumerate(parts(history), 1):
@@ -102,21 +114,23 @@ def fault_of(map, scripts, printed, words=(), since=None):
 
 
 def made_by(scripts, history):
-    """The calls of a history's lines, which are right, each with its line."""
+    """Returns a pair for each line of a correct history: the call of the line, and the line."""
     left = {name: list(calls) for name, calls in scripts.items()}
     return [(left[line.split(" ")[2]].pop(0), line + "\n") for line in history]
 
 
 def switches(printed):
-    """How many lines there are, and how many are another operator's than the line before, but for the first line of
-    each: these would be there if one ran after the other."""
+    """Returns how many history lines there are, and how many of them are switches. The first line of each operator
+    doesn't count as a switch, because this line would come after a line of another operator even if the scripts ran
+    one after the other."""
     operators = [operator for _, operator, _, _ in parts(printed.partition(END)[2].splitlines())]
     begins = sum(name != before for before, name in zip([None, *operators], operators))
     return len(operators), begins - len(set(operators))
 
 
 def yielding(folder):
-    """What a run has in its environment, so that threads yield, or nothing where no compiler is there."""
+    """Compiles the library. Returns the environment variable that loads the library into the program, or an empty
+    dictionary if there is no compiler."""
     compiler = os.environ.get("CC") or shutil.which("cc") or shutil.which("gcc")
     if not compiler:
         return {}
@@ -134,7 +148,7 @@ def by_program(program, job, environment):
 
 
 def by_model(dice, map, scripts):
-    """What the model prints when the calls are made in an order of chance."""
+    """Returns what the model prints if the calls of the operators mix in a random order."""
     order = [name for name, calls in scripts.items() for _ in calls]
     dice.shuffle(order)
     left = {name: list(calls) for name, calls in scripts.items()}
@@ -147,7 +161,8 @@ def by_model(dice, map, scripts):
 
 
 def wrong_outputs(dice, printed):
-    """What must not agree: another reply, another call, no last line, another map."""
+    """Yields copies of a right output that are wrong: with another reply, with another call, without the last line,
+    and with another text of the map."""
     text, history = printed.split(END)
     lines = history.splitlines()
     if lines:
@@ -161,7 +176,7 @@ def wrong_outputs(dice, printed):
 
 
 def try_jobs(program, count, seed, environment):
-    """How many lines the jobs had, and how many were another operator's than the one before."""
+    """Tests the jobs. Returns how many history lines all jobs have, and how many of these lines are switches."""
     lines = crossings = 0
     for index in range(count):
         dice = random.Random(f"{seed} {index}")

@@ -1,4 +1,4 @@
-"""Maps, calls and jobs of chance, for the scripts that compare the program with the model."""
+"""Makes random maps, calls and jobs for the scripts that compare the program with the plain model (model.py)."""
 
 import random
 
@@ -10,7 +10,7 @@ WEIGHTS = ["0", "1", "0.333", "2.5", "1.00001", "32767.99998", "32768", "40000",
 
 
 def random_map(dice):
-    """A map that isn't too heavy to be read."""
+    """Returns a random map. No weight in the map exceeds the limits of the program."""
     while True:
         map = any_map(dice)
         if not map.is_heavy():
@@ -69,15 +69,16 @@ def random_command(dice, map):
 
 
 def random_call(dice, map):
-    """A call: `one`, `batch`, or the number of changes that a guarded batch names, and its commands, each as its
-    words."""
+    """Returns a random call: its kind, and a list of its commands, each as a list of words. The kind is `one` for a
+    command outside of a batch, and `batch` for a batch. For a guarded batch (`begin at N`), the kind is the number N
+    of earlier changes that the batch names."""
     kind = dice.choice(["one"] * 8 + ["batch", dice.randint(0, 4)])
     count = 1 if kind == "one" else dice.randint(0, 4)
     return kind, [random_command(dice, map) for _ in range(count)]
 
 
 def call_lines(dice, call):
-    """The lines of a script that ask for a call."""
+    """Returns the lines of a call in a script."""
     kind, commands = call
     if kind != "one":
         begin = "begin" if kind == "batch" else f"begin at {dice.choice(['', '', '000'])}{kind}"
@@ -86,7 +87,7 @@ def call_lines(dice, call):
 
 
 def random_job(dice):
-    """The bytes of a job, and what is to be printed of it."""
+    """Returns the text of a random job, and what the program must print if the scripts of the job run in turn."""
     map = random_map(dice)
     job, lines, number, changes = map.text(), [], 0, 0
     for operator in dice.sample(["a", "b", "c.d"], dice.randint(0, 3)):
@@ -102,7 +103,8 @@ def random_job(dice):
 
 
 class Dice(random.Random):
-    """Draws by `random` alone, whose numbers of a seed are the same in each version of Python."""
+    """Makes all random choices with the method `random`, which gives the same numbers for a seed in every version of
+    Python."""
 
     def randint(self, low, high):
         return low + int(self.random() * (high - low + 1))
@@ -116,5 +118,5 @@ class Dice(random.Random):
 
 
 def numbered(count, seed):
-    """The jobs of a seed, each with what is to be printed of it."""
+    """Yields the random jobs of a seed, each with the output that the program must print for it."""
     return (random_job(Dice(f"{seed} {index}")) for index in range(count))
