@@ -1,12 +1,21 @@
-"""Whether names that collide without keys of hashing take longer than others.
+"""Checks that the program isn't slow with names that would have the same hash if it hashed names without random keys.
 
     python3 tests/colliding.py crates/crushedit/out/crushedit [NAMES]
 
-Keys are drawn anew for each run, so that nobody can work out names that collide. A run that lost them answers the same,
-and only takes longer: so each job is run with names that all hash alike without keys, and with as many others of the
-same length, 8,000 if nothing is said. The jobs read a map and look for names that aren't there; read a map that
-`--since` names; and tell why batches are refused, each on a copy of the map (`--explain`). Printed are the processor
-seconds of each, the least of three runs; the status is 1 where the first are more than three times the second.
+Names *collide* if they have the same hash. The program draws random keys for each run, and hashes names with these
+keys, so that nobody can find names that collide. A program that didn't use random keys would print the same output,
+but it would take longer if names collide. So the test runs each job twice: with names that collide if they are hashed
+without keys, and with as many other names of the same length. There are NAMES names, or 8,000 if NAMES isn't given.
+NAMES must be greater than 1,000. The test needs a Python that hashes with SipHash-1-3, as Python 3.11 and later
+versions do. With this Python, the test finds names that collide.
+
+There are three kinds of jobs. In the job `reading`, the program reads a map, and searches for names that aren't in
+the map. In the job `since`, the program reads a map that `--since` names. In the job `batches`, the program prints
+why batches are refused (`--explain`), and copies the map for each batch.
+
+For each kind of job, the test prints the processor seconds with names that collide, and then with other names. Each
+time is the least of three runs. The status is 1 if the first time is more than three times the second time, or if a
+run fails.
 """
 
 import os
@@ -41,7 +50,7 @@ def batches(names, absent):
 
 
 def seconds(program, job, words):
-    """The least processor time of three runs of a job, with the words before it."""
+    """Runs a job three times with these options. Returns the least of the three processor times, in seconds."""
     taken = []
     for _ in range(3):
         with open(job, "rb") as stdin:

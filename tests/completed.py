@@ -1,7 +1,9 @@
-"""Types at a bash that has read completions/crushedit.bash, and looks how the line is completed; tests/pages_test.py calls it.
+"""Tests how bash completes command lines of crushedit. The script tests/pages_test.py calls `completion_faults`.
 
-Each line of TYPED is typed with a tab behind it, in a folder with the files of FILES. Then the words that a `-` may
-become have to be those of the program's own help.
+The test starts a bash that has read completions/crushedit.bash, in a folder with the files of FILES. For each key of
+TYPED, the test types the key and a tab. The line must then be the value that TYPED has for this key. The test also
+checks that bash offers exactly the options of `crushedit --help` when it completes a `-`. The program crushedit must
+be in the PATH. If the system has no pseudo-terminal, the test prints this, and doesn't type.
 """
 import os
 import pathlib
@@ -32,13 +34,15 @@ TYPED = {
     "crushedit -- --tr": "crushedit -- --trial ",
     "crushedit -s --tr": "crushedit -s --trial ",
 }
-# Ctrl-T shows the line as it is then between two bytes that nothing else has, Ctrl-U takes it away.
+# With these settings, Ctrl-T prints the current line between the bytes 1 and 2, and the prompt is the byte 3. The
+# shell prints these bytes nowhere else. Ctrl-U removes the line.
 BEGUN = r"""bind -x '"\C-t": printf "\1%s\2" "$READLINE_LINE"'; PS1=$'\3'"""
 SECONDS = 20
 
 
 def told_up_to(terminal, end):
-    """What the terminal shows up to this byte."""
+    """Waits until the terminal shows this byte. Returns what the terminal shows before the byte. Raises TimeoutError
+    if the terminal shows nothing for SECONDS seconds."""
     told = b""
     while end not in told:
         ready, _, _ = select.select([terminal], [], [], SECONDS)
@@ -81,7 +85,8 @@ def word_faults(here, environment):
 
 
 def completion_faults(folder, environment):
-    """What is completed otherwise than it has to be."""
+    """Yields a message for each line or word that bash doesn't complete as it should. The test works in a new folder
+    inside `folder`."""
     here = pathlib.Path(folder, "completed")
     here.mkdir()
     for name in FILES:

@@ -1,12 +1,21 @@
-"""Lost changes of random scripts: those that `crushedit apply` reports are those of a plain model.
+"""Compares the lost changes that `crushedit apply` reports for random scripts with those that the plain model finds.
 
     python3 tests/conflicts.py crates/crushedit/out/crushedit [JOBS [SEED]]
 
-Each job is a random map with the scripts of two to four operators. The plain model makes the map after each script alone, in
-which a guarded batch is a batch, and the map after all scripts in turn, and compares them aspect by aspect. Two of three
-jobs have scripts without a command that is refused in the run. `crushedit apply` has to print nothing and to end with status 5
-if a change is lost, and standard error has to end with the lines of the model. With `--last-wins` it must not report
-them. The status is 1 if a job is wrong. The seed may be any word; without one it is drawn.
+Without JOBS, the test runs 1,000 jobs. SEED may be any word. Without SEED, the test draws a random seed.
+
+Each job has a random map, and random scripts of two to four operators. In two of three jobs, no command is refused
+when all scripts run one after the other. A script changes an *aspect* of an item, for example the weight of a device.
+This change is *lost* if the aspect has another value after all scripts than it has if only this script runs. So the
+*plain model*, a second implementation of the program in Python, computes the map after each script alone, and the map
+after all scripts one after the other. Then it compares the aspects of each item. When a script runs alone, a batch
+with `begin at N` counts as a batch without `at N`.
+
+If a change is lost, `crushedit apply` must print nothing, and end with status 5. Standard error must end with the
+lines of the model. If no change is lost, but a call is refused, `apply` must also print nothing, and end with status
+5. In all other jobs, the status must be 0. With `--last-wins`, `apply` must report no lost change.
+
+The test prints how many jobs have lost changes, and how many jobs are wrong. The status is 1 if a job is wrong.
 """
 
 import os
@@ -25,14 +34,15 @@ FIRST = ("removed", "made")
 
 
 def alone(map, calls):
-    """The map after these calls: a refused call changes nothing, and a guarded batch is a batch."""
+    """Returns the map after these calls. A refused call changes nothing. A guarded batch (`begin at N`) counts as a
+    batch without `at N`."""
     for kind, commands in calls:
         map, _ = run_call(map, (kind if kind in ("one", "batch") else "batch", commands), 0)
     return map
 
 
 def in_turn(map, scripts):
-    """The map after all scripts, and the ends of their history lines."""
+    """Returns the map after all scripts, and a list of their history lines without numbers and operators."""
     lines, changes = [], 0
     for script in scripts:
         for call in script:
@@ -43,13 +53,13 @@ def in_turn(map, scripts):
 
 
 def key_of(before, map, name):
-    """How an item is told from others: by its id if the map before has this id, and else by its name."""
+    """Returns the key of an item: its id if the map before the scripts has this id, and otherwise its name."""
     number = map.items[name]["id"]
     return number if before.with_id(number) else name
 
 
 def place_in(before, map, name):
-    """The bucket that holds an item, as it is told from others, and as it is printed."""
+    """Returns the key of the bucket that holds an item, or None, and the text for this place."""
     parent = map.parent(name)
     if parent is None:
         return None, "(unplaced)" if map.is_device(name) else "(root)"
@@ -58,7 +68,7 @@ def place_in(before, map, name):
 
 
 def aspects_of(before, map, key):
-    """The aspects of an item in a map, each with its value and the words of this value."""
+    """Returns the aspects of the item with this key in a map, each with its value and the text for this value."""
     name = next((n for n in map.items if key_of(before, map, n) == key), None)
     if name is None:
         return {"there": (False, "removed")}
@@ -70,12 +80,14 @@ def aspects_of(before, map, key):
 
 
 def differing(one, other):
-    """The aspects of the first that the second hasn't, or has otherwise."""
+    """Returns the aspects in `one` that `other` doesn't have, or that have another value in `other`."""
     return {aspect for aspect in one if aspect not in other or one[aspect][0] != other[aspect][0]}
 
 
 def conflict_line(name, old, each, new):
-    """The line of an item, by its aspects before, after each operator's script alone, and after the run, if a change is lost."""
+    """Returns a list with the line of an item if a change of the item is lost, and otherwise an empty list. `old` has
+    the aspects before the scripts. `each` has pairs of an operator and the aspects after this operator's script
+    alone. `new` has the aspects after all scripts."""
     lost = {aspect for _, own in each for aspect in differing(own, old) & differing(own, new)}
     if not lost:
         return []
@@ -100,7 +112,7 @@ def tree_order(map):
 
 
 def conflict_lines(map, scripts):
-    """The lines of all items with a lost change, and the history lines of the run."""
+    """Returns the lines of all items with a lost change, and the history lines of the run."""
     after, history = in_turn(map, scripts)
     own = [alone(map, script) for script in scripts]
     new = sorted({key for one in own for key in (key_of(map, one, n) for n in one.items) if isinstance(key, str)})
@@ -112,7 +124,7 @@ def conflict_lines(map, scripts):
 
 
 def lines_of(call):
-    """The lines of a call in a script."""
+    """Returns the lines of a call in a script."""
     kind, commands = call
     if kind == "one":
         return " ".join(commands[0]) + "\n"
@@ -121,7 +133,7 @@ def lines_of(call):
 
 
 def changing_script(dice, map):
-    """A script of some random calls. Most of them change the map if the script runs alone."""
+    """Returns a script of some random calls. Most of the calls change the map if the script runs alone."""
     script, count, changes = [], dice.randint(1, 4), 0
     for _ in range(60):
         call = random_call(dice, map)
@@ -135,7 +147,7 @@ def changing_script(dice, map):
 
 
 def without_refused(map, scripts):
-    """The scripts without the calls that a run of all scripts refuses."""
+    """Returns the scripts without the calls that are refused when all scripts run one after the other."""
     changes, kept = 0, []
     for script in scripts:
         kept.append([])
@@ -159,7 +171,7 @@ def run(program, folder, words):
 
 
 def fault_of(program, folder, map, scripts):
-    """What is wrong with a job, or nothing."""
+    """Returns what is wrong with a job, or None."""
     lines, history = conflict_lines(map, scripts)
     with open(os.path.join(folder, "map"), "w") as out:
         out.write(map.text())
