@@ -1,18 +1,32 @@
-"""Documents of --json on jobs of chance, each beside that of a plain model: maps, trees, changes, plans, histories.
+"""Compares the JSON documents that crushedit prints for random jobs with documents that the plain model computes.
 
     python3 tests/documents.py crates/crushedit/out/crushedit [JOBS [SEED]]
 
-The values are written from docs/user/json.md alone, of the maps and the history lines that the plain model makes of a job in
-turn. Which items have changed, and how many, is what the model's text of `--since` tells, and the commands of a plan are
-those that `--to` prints without `--json`, made by the model. Each document is one with the history and one without, and
-each other one is of a part (`--under NAME`, `--down-to TYPE`; `parts.py` says which items that is). It has to be one
-line of ASCII that Python's json reads, and byte for byte what json writes of the model's value, with the members by
-their names; so weights of plans, which are decimals, have their six places. A run at once, whose history may be
-another, is compared with the model's document of its own history.
+Without JOBS, the test runs 1,000 jobs. SEED may be any word. Without SEED, the test draws a random seed. The jobs are
+those of chance.py, with tunables, device classes, ids for device classes, and rules with all kinds of steps.
 
-Jobs are those of chance.py, with tunables, classes, ids of classes, and rules of all steps. Behind them each stored
-output of examples/asked/ that is of `--json` is read. The status is 1 where a document is another; told is how many were
-compared, and what they had. The seed may be any word; without one it is drawn.
+For each job, the program prints several documents (`--json`): of the map, of the tree, of a part of the tree
+(`--under NAME`, `--down-to TYPE`), of the changes since another map (`--since`), of the changes in a part, and of
+plans to the other map (`--to`, with and without `--by-name`). The module parts.py says which items a part has. The
+program prints each document twice, with the history and without it. In these runs, the scripts of the job run one
+after the other. In a last run, which prints the document of the map, the scripts run at once, each in its own thread.
+The history may then differ from run to run. So the document of this run is compared with the document that the model
+computes for the same history.
+
+The *plain model* is a second implementation of the program, in Python. It makes the calls of the job, and this script
+computes a value for each document from the model's map and history lines. The script was written from
+docs/user/json.md alone. For `--since`, the items that have changed, and the numbers of changes, are read from the
+text that the model prints for `--since` without `--json`. The commands of a plan are those that the program prints
+for `--to` without `--json`. The model applies these commands.
+
+Each document must be one line of ASCII that Python's module json can read. It must be byte for byte what the module
+json writes for the value, with the members sorted by name. The weights in plans are the only decimals. They must have
+six digits after the point.
+
+After the jobs, the test checks the stored documents in examples/asked/. Each document must be one line of ASCII that
+the module json can read. The module json must write the same bytes for what it has read.
+
+The test prints how many documents it has compared, and what they contain. The status is 1 if a document is wrong.
 """
 
 import collections
@@ -38,12 +52,12 @@ from reading import read_job, read_map
 ASKED = pathlib.Path(__file__).resolve().parent.parent / "examples/asked"
 CLASSES = ["hdd", "ssd", "nvme"]
 SERVED = {"replicated": 1, "erasure": 3}
-# Steps beside the one that takes a bucket.
+# Steps of rules that take no bucket.
 STEPS = ["step set_choose_tries 100", "step set_chooseleaf_tries 5", "step set_choose_local_tries 0", "step set_chooseleaf_vary_r 1",
          "step set_choose_local_fallback_tries 2", "step set_chooseleaf_stable 1", "step choose firstn 0 type rack",
          "step chooseleaf firstn -1 type host", "step choose indep 4 type osd", "step chooseleaf indep 0 type row", "step emit"]
 OPERATOR, UNTOLD = re.compile(r"(?m)^(?=%)"), "--no-history"
-# What the members of a command are called, in the order of its words in a script.
+# The names of a command's members in a document, in the order of the command's words in a script.
 COMMANDS = {
     "move": ("name",), "swap-bucket": ("source", "dest"), "reweight": ("name", "weight"), "reweight-subtree": ("name", "weight"),
     "rm": ("name",), "add-bucket": ("name", "type"), "rename-bucket": ("srcname", "dstname"), "set-device-class": ("class", "ids"),
@@ -56,7 +70,8 @@ def without_none(value):
 
 
 def step_value(map, line, number):
-    """A step of a rule, and the id of the bucket that it takes."""
+    """Returns the value of a rule's step. `line` is the step as the model stores it, and `number` is the id of the
+    bucket that the step takes, or None."""
     first, *rest = line.split()[1:]
     if first == "take":
         kind = rest[2] if rest[1:] else None
@@ -93,7 +108,8 @@ def map_value(map):
 
 
 def tree_value(map, part):
-    """The tree of a part, whose buckets tell of all their items in the map."""
+    """Returns the value of the tree of a part. The children of a bucket are all its items in the map, even if they
+    aren't in the part."""
     told = {False: [], True: []}
     for depth, name in tree_rows(part):
         item, is_device = map.items[name], map.is_device(name)
@@ -105,19 +121,20 @@ def tree_value(map, part):
 
 
 def class_ids_value(map, name):
-    """The class ids of a bucket; none for a device."""
+    """Returns the value of the ids that a bucket has for device classes, or None for a device."""
     return None if map.is_device(name) else [{"class": kind, "id": number} for number, kind in map.items[name].get("ids", ())]
 
 
 def seen_value(map, name):
-    """What a map has of an item, if it has it."""
+    """Returns the value that describes an item of a map. Returns None if the name is None, because the map doesn't
+    have the item."""
     return name and without_none({"alg": map.items[name].get("alg"), "class": map.items[name].get("class"),
                                   "class_ids": class_ids_value(map, name), "name": name, "parent": map.parent(name),
                                   "type": type_name(map, name), "weight": map.weight(name)})
 
 
 def rule_changes_value(text):
-    """The rules that differ or that take nothing, by the lines of a text."""
+    """Yields the values for the lines about rules in the text of `--since`."""
     for line in text.splitlines():
         differs = re.fullmatch(r"rule (\S+) (?:is )?(new|differs|gone)", line)
         emptied = re.fullmatch(r"rule (\S+) takes nothing: ([^\s~]+)(?:~(\S+))? weighs 0.00000", line)
@@ -130,7 +147,7 @@ def rule_changes_value(text):
 
 
 def class_changes_value(old, new):
-    """The classes that weigh another sum, and those that are new though no rule takes them."""
+    """Returns the values of the classes whose total weight differs, and of the new classes that no rule takes."""
     was, now, taken = class_weights(old), class_weights(new), classes_taken(new)
     other = {kind for kind in {*was, *now} if was.get(kind, 0) != now.get(kind, 0)}
     return [{"is": now.get(kind, 0), "name": kind, "taken": kind in taken, "was": was.get(kind, 0)}
@@ -138,7 +155,8 @@ def class_changes_value(old, new):
 
 
 def since_value(old, new, under):
-    """What has changed: of the items and counts that the text tells, of a part of its items alone."""
+    """Returns the value of what has changed. The items and numbers are read from the model's text of `--since`. For a
+    part (if `under` isn't None), the value only has the items of the part."""
     text = since_text(old, new)
     ids = [int(number) for number in re.findall(r"(?m)^\S+ \((-?\d+)\): ", text)]
     own = set(ids) if under is None else part_ids(old, new, under)
@@ -153,7 +171,8 @@ def since_value(old, new, under):
 
 
 def command_value(words):
-    """A command of a plan, as a monitor takes it. A weight has a sign before it, by which `bare` tells a number."""
+    """Returns the value of a plan's command, in the form that a monitor of Ceph accepts. The weight is a text that
+    begins with `=`, because `bare` replaces the decimals of a document with such texts."""
     first, *rest = words
     names = COMMANDS[first]
     members = dict(zip(names, rest))
@@ -170,7 +189,7 @@ def command_value(words):
 
 
 def entry_value(line):
-    """An entry of the history, of its line."""
+    """Returns the value of a history line."""
     number, operator, told = line.rstrip("\n").split(" ", 3)[1:]
     call, _, reply = told.rpartition(" = ")
     value = {"call": call, "number": int(number), "operator": operator, "reply": reply}
@@ -183,12 +202,13 @@ def entry_value(line):
 
 
 def bare(text):
-    """A document in which each decimal is a text behind a sign that no other text begins with."""
+    """Replaces each decimal weight of a document with a text: a `=` and the same digits. No other text in a document
+    begins with `=`. So the test compares the digits of the decimals, and not only their values."""
     return re.sub(r'(?<=[{,]"weight":)(\d+\.\d{6})(?=[,}])', r'"=\1"', text)
 
 
 def expect_document(what, text, due):
-    """The text is the document of this value, byte for byte."""
+    """Checks that the text is the document of this value, byte for byte. Otherwise raises ValueError."""
     if not text.isascii() or text.count("\n") != 1 or not text.endswith("\n"):
         raise ValueError(f"{what}: no line of ASCII: {text!r}")
     json.loads(text)
@@ -196,7 +216,7 @@ def expect_document(what, text, due):
 
 
 def with_classes(dice, map):
-    """The map, of which devices have classes."""
+    """Gives about half of the map's devices a random class, and returns the map."""
     for name, item in map.items.items():
         if map.is_device(name) and dice.random() < 0.5:
             item["class"] = dice.choice(CLASSES)
@@ -204,7 +224,7 @@ def with_classes(dice, map):
 
 
 def with_class_ids(dice, map):
-    """The map, whose buckets have ids of classes."""
+    """Gives each bucket of the map up to two ids for device classes, and returns the map."""
     spare = iter(range(-40, -100, -1))
     for name, item in map.items.items():
         if not map.is_device(name):
@@ -213,7 +233,8 @@ def with_class_ids(dice, map):
 
 
 def with_rules(dice, map, classes, served):
-    """The map with rules that take buckets, of one of these classes or of none, and serve one of these."""
+    """Gives the map up to three rules, and returns the map. Each rule takes one or two buckets, with one of these
+    classes or without a class. The type of the rule is one of `served`."""
     buckets = [name for name in map.items if not map.is_device(name)]
     map.rules = []
     for number in dice.sample(range(6), dice.randint(0, 3)):
@@ -226,7 +247,7 @@ def with_rules(dice, map, classes, served):
 
 
 def job_of(dice):
-    """A job, and the text of a map to compare with."""
+    """Returns a random job, and the text of the other map, for `--since` and `--to`."""
     front, *sections = OPERATOR.split(random_job(dice)[0])
     map = with_class_ids(dice, with_classes(dice, read_map(front)[0]))
     map.tunables = dice.choice(TUNABLES)
@@ -242,7 +263,8 @@ def printed(program, folder, words):
 
 
 def part_words(dice, map):
-    """Words for a part of a tree, or for the whole, and the part."""
+    """Returns random options `--under` and `--down-to`, and the part of the map that they select. If neither option
+    is drawn, the part is the whole map."""
     under = dice.choice([None, *map.items])
     kind = dice.choice([None, None, *map.types.values()])
     words = (["--under", under] if under else []) + (["--down-to", kind] if kind else [])
@@ -250,8 +272,8 @@ def part_words(dice, map):
 
 
 def values(program, folder, dice, map, wanted):
-    """What the words print of a map that is done: each time the words, the name of the member, and what the document has beside
-    the history."""
+    """Yields pairs: options, and the value of the document that the program must print with them, without the
+    history. `map` is the map after the scripts, and `wanted` is the other map."""
     yield [], {"map": map_value(map)}
     for words, part in (([], cut(map, None, None)), part_words(dice, map)):
         yield ["--tree", *words], {"tree": tree_value(map, part)}
@@ -285,7 +307,8 @@ def check(program, folder, dice, job, other, counts):
 
 
 def check_at_once(map, made, told):
-    """A document at once is the model's of its own history, whose calls are in the order of these."""
+    """Checks the document of a run at once. `made` has the calls in the order of the document's history, each with
+    its history line. The document must be the one that the model computes for these calls."""
     changes = 0
     for number, (call, line) in enumerate(made, 1):
         operator = line.split(" ")[2]
@@ -296,7 +319,8 @@ def check_at_once(map, made, told):
 
 
 def stored_faults(counts):
-    """Which stored outputs of runs with `--json` aren't a line of ASCII that Python's json reads."""
+    """Yields a message for each stored output of a run with `--json` that isn't one line of ASCII, or that Python's
+    module json can't read, or for which the module json then writes other bytes."""
     for words in sorted(ASKED.glob("*.words")):
         out = words.with_suffix(".out")
         if "--json" in words.read_text().split() and out.exists():
