@@ -7,7 +7,7 @@ A *job* is the text of a map, followed by the scripts of operators. A *call* is 
 Each script runs in a thread of its own, so the order of the calls may differ from run to run. The program prints the
 map, and then the *history*, which has a line for each call with its reply. The *plain model* of model.py, a second
 implementation in Python, makes the calls one after the other, in the order of this history. Without JOBS, the test
-runs 1,000 jobs. Without SEED, it draws a random seed.
+runs 1,000 jobs. Without SEED, the test draws a random seed.
 
 The history lines of each operator must be exactly the calls of the operator's script, in the order of the script.
 Each reply must be the reply of the model at this point of the history. The printed map must be the map of the model

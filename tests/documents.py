@@ -13,15 +13,15 @@ after the other. In a last run, which prints the document of the map, the script
 The history may then differ from run to run. So the document of this run is compared with the document that the model
 computes for the same history.
 
-The *plain model* is a second implementation of the program, in Python. It makes the calls of the job, and this script
-computes a value for each document from the model's map and history lines. The script was written from
+The *plain model* is a second implementation of the program, in Python. The model makes the calls of the job, and this
+script computes a value for each document from the model's map and history lines. The script was written from
 docs/user/json.md alone. For `--since`, the items that have changed, and the numbers of changes, are read from the
 text that the model prints for `--since` without `--json`. The commands of a plan are those that the program prints
 for `--to` without `--json`. The model applies these commands.
 
-Each document must be one line of ASCII that Python's module json can read. It must be byte for byte what the module
-json writes for the value, with the members sorted by name. The weights in plans are the only decimals. They must have
-six digits after the point.
+Each document must be one line of ASCII that Python's module json can read. The document must be byte for byte what
+the module json writes for the value, with the members sorted by name. The weights in plans are the only decimals, and
+must have six digits after the point.
 
 After the jobs, the test checks the stored documents in examples/asked/. Each document must be one line of ASCII that
 the module json can read. The module json must write the same bytes for what it has read.
