@@ -194,8 +194,8 @@ impl<'a, A: Allocator, B: Allocator> Comparison<'a, A, B> {
 
     /// Returns what differs between the items of a pair, or `None` if nothing differs. `report`
     /// says which differences count. If items are matched by their names, this method compares no
-    /// ids: it compares the names of the items' types, and the names of the buckets that hold the
-    /// items.
+    /// ids. Instead, it compares the names of the items' types, and the names of the buckets that
+    /// hold the items.
     pub fn difference(&self, report: Report, pair: Pair) -> Option<Difference>
         ensures { result ≡ pair_difference self.now.identity report self.now.old.map.now.setting
             self.now.new.map.now.setting (pair_entries self.now pair) }

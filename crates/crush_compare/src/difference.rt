@@ -19,8 +19,8 @@ use crush_units::{ItemId, Weight};
 pub enum Report {
     /// Every column in which two maps say different things about an item counts.
     Changes,
-    /// This is for the differences that remain after a plan, which is a list of commands that
-    /// change one map into another map. Differences count as with `Changes`, with two exceptions.
+    /// This is for the differences that remain after a plan, which is a list of commands that lead
+    /// from one map toward another map. Differences count as with `Changes`, with two exceptions.
     /// The weight of a bucket doesn't count, because it is the sum of the weights in the bucket. A
     /// difference of one unit (1/65536 TiB) in the weight of a device doesn't count either, because
     /// Ceph's `crushtool -c` may cut one unit off when it reads a weight.

@@ -59,10 +59,10 @@ pub fn a_run_is_a_part()
     ensures { RunIsPart }
 {}
 
-/// This law is about tables that are matched by names. In each table, a part consists of the item
-/// with a certain name and of all items below it. The pairs of the part are exactly those pairs of
-/// the whole tables of which at least one item is in the part of its table. They are in the same
-/// order as in the list of all pairs.
+/// This law is about two tables whose items are matched by their names. In each table, a part
+/// consists of the item with a certain name and of all items below it. A pair of the whole tables
+/// is a pair of the part if and only if at least one of the pair's items is in the part of its
+/// table. The pairs of the part are in the same order as in the list of all pairs.
 pub fn pairs_of_a_part_are_those_in_the_part()
     ensures { PartOfPairs }
 {}
