@@ -31,7 +31,7 @@ of_row t i line = option_map_or line (row_of t i) []
 unfoldable pub kind_text : SettingData → ℕ → List ℕ
 kind_text s n = unwrap_or (kind_name s n) []
 
--- the lines of the items of the bucket b, in their order. The weight in a line is the device's own weight. For a bucket, it is the sum of the weights of all devices below the bucket
+-- the lines of the items of the bucket b, in their order. The line of a device has the device's own weight. The line of a bucket has the sum of the weights of all devices below this bucket
 unfoldable pub kids_lines : WeightForm → List Row → ℕ → List ℕ
 kids_lines form t b = flat_map (λ i. of_row t i (λ (r : Row). item_line form r.name (item_weight t i r.weight))) (kids t b)
 

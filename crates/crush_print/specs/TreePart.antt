@@ -16,7 +16,7 @@ abbrev pub steps_under : Option ItemId → List Row → List WalkStepData
 steps_under None t = tree_rows t
 steps_under (Some i) t = steps_at t (length t) 0 i
 
--- DOWN TO a type: whether a step is deeper than `closed`. If it is, it is below the bucket that has the depth `closed`. The result is false if `closed` is none
+-- DOWN TO a type: whether a step is deeper than `closed`, which is the depth of the bucket below which steps are being left out. A deeper step is below this bucket. The result is false if `closed` is none
 abbrev pub is_closed : Option ℕ → WalkStepData → Bool
 is_closed None s = false
 is_closed (Some depth) s = nat_lt depth s.depth

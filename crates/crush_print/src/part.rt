@@ -236,8 +236,8 @@ fn copy_of<'a, A: Allocator>(step: &WalkStep<'a, A>) -> WalkStep<'a, A>
     }
 }
 
-/// Whether the step is deeper than `closed`. If it is, it is below the bucket that has this depth.
-/// If `closed` is `None`, the result is false.
+/// Whether the step is deeper than `closed`, which is the depth of the bucket below which steps are
+/// being left out. A deeper step is below this bucket. If `closed` is `None`, the result is false.
 pub(crate) fn is_closed<A: Allocator>(closed: Option<u32>, step: &WalkStep<'_, A>) -> bool
     ensures { result ≡ is_closed closed (walk_step_data step.now) }
 {

@@ -47,8 +47,8 @@ pub fn bytes_of<'a>(text: Option<&'a str>) -> &'a [u8]
     }
 }
 
-/// Appends the weight to `out`, rounded to five digits after the point. In the text, 1.0 is 65536
-/// units of weight.
+/// Appends the weight to `out`, rounded to five digits after the point. For example, 65536 units
+/// are printed as `1.00000`.
 pub fn push_weight(weight: Weight, out: &mut Vec<u8>) -> Result<(), AllocError>
     ensures { OnOk result (out.new.items ≡ out.old.items ++ weight_text weight) }
 {
