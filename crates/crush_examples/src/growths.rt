@@ -19,8 +19,8 @@ mod refusing;
 mod run;
 
 /// Runs the job of each record, in both ways. Prints the name of a job before the runs of the job,
-/// and prints the result after these runs. Fails if a record lacks a part, or if the runs of a job
-/// fail ([`run_each`]).
+/// and prints the result after these runs. Fails if a record lacks a part, or if [`run_record`]
+/// fails for a job.
 pub fn run_growths(rt: &HostRuntime, records: &[u8]) -> anyhow::Result<()> {
     for record in records.split(|byte| *byte == RECORD_SEPARATOR) {
         let parts = read_parts(record).context("a part is missing")?;
@@ -34,8 +34,8 @@ pub fn run_growths(rt: &HostRuntime, records: &[u8]) -> anyhow::Result<()> {
 
 /// Runs a job many times ([`run_each`]), and counts the runs that report that memory ran out. Each
 /// run makes at least a certain number of requests for memory, which `run_each` returns. The
-/// function fails if fewer runs than this number report that memory ran out. It also fails if a run
-/// ends with another output.
+/// function fails if fewer runs than this number report that memory ran out. It also fails if
+/// `run_each` fails, for example because a run ends with another output.
 fn run_record(rt: &HostRuntime, parts: &Parts, maker: Maker) -> anyhow::Result<()> {
     let memory = Refusing::new(rt.alloc());
     let (told, fewest) = run_each(rt.alloc(), &memory, parts, maker)?;
