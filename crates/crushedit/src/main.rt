@@ -52,7 +52,8 @@ fn end_without_run(rt: &HostRuntime, fault: &OptionsFault) -> u8 {
 }
 
 /// Runs what the options of the command line ask for, and returns the exit status. If `--output`
-/// names a file, the output replaces this file. Otherwise it is written to standard output.
+/// names a file, a run that succeeds replaces this file by its output. If `--output` is missing or
+/// names `-`, the output is written to standard output.
 fn run(
     rt: &HostRuntime,
     workers: &(impl AllocGlobal + RandomSource + Threads + Wait + Sync),
