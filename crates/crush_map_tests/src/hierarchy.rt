@@ -1,4 +1,4 @@
-//! Tests of an `Index` and of a `Hierarchy`, which call almost all of their methods.
+//! Tests that call most methods of an `Index` and of a `Hierarchy`.
 
 mod asked;
 mod asked_changes;

@@ -1,4 +1,4 @@
-//! Builds a small hierarchy, and calls the methods of this hierarchy.
+//! Builds a small hierarchy, and calls most methods of this hierarchy.
 
 use super::asks::{fits_attach, fits_move, fits_swap, has_item};
 use super::comes::{put_bucket, put_placed, put_root, put_unplaced};

@@ -46,7 +46,7 @@ fn bucket_with_most_class_ids(rt: &(impl Abort + AllocGlobal)) -> Node<Global> {
 }
 
 /// Returns a bucket that uses the ids -3 and -69696. The index has a bit for each id that is nearer
-/// to 0 than -69696. It stores every other used id in a hash set.
+/// to 0 than -69696. In this test, all other used ids are in a hash set.
 fn bucket_with_one_class_id(rt: &(impl Abort + AllocGlobal)) -> Node<Global> {
     let mut class_ids = Vec::new(rt.alloc());
     class_ids.push(class_id(rt, 69_696)).expect(rt, "memory");

@@ -135,8 +135,8 @@ fn what_a_builder_is_asked(rt: HostRuntime) {
     drop(builder);
 }
 
-/// Adds a device with `device_unchecked`, if the builder's tests say that everything is true that
-/// this method requires. Returns whether the device was added.
+/// Tests everything that `device_unchecked` requires. If all of this is true, adds a device with
+/// this method. Returns whether the device was added.
 fn adds_unchecked(builder: &mut MapBuilder<Global>, id: DeviceId, name: &[u8]) -> bool {
     if !builder.is_idle() {
         return false;

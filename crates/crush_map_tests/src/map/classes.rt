@@ -8,8 +8,8 @@ use crush_units::Weight;
 use std::alloc::Global;
 use std::process::Abort;
 
-/// An item, a class, and the weight of this class at the item, in units of 1/65536. The weight is
-/// `None` if no item has the name.
+/// The name of an item, a class, and the weight of all devices of this class that are the item
+/// itself or below it, in units of 1/65536. The weight is `None` if no item has the name.
 type Row = (&'static str, &'static str, Option<u32>);
 
 /// osd.0 and osd.2 have the class ssd.

@@ -1,7 +1,7 @@
 //! Tests batches whose edits add, move, remove and rename items. If an edit of a batch is refused,
 //! the items must be in the same order as before the batch, and the map must use the same amount of
-//! memory. If no edit is refused, the batch must have the same result as the same edits that are
-//! applied one by one.
+//! memory. If no edit is refused, the batch must have the same result as if its edits were applied
+//! one by one.
 
 use crate::map::asking::{Asked, Told, answer, edit, edits};
 use crate::map::same::has_the_same;
@@ -12,7 +12,7 @@ use std::alloc::Global;
 use std::process::Abort;
 
 /// Edits that put items into full buckets, into new buckets and among the roots. One edit changes
-/// nothing, because its device is already at the location. Other edits move a bucket, move a bucket
+/// nothing, because its device is already at the location. Some edits move a bucket, move a bucket
 /// into which other items have moved before, or move a bucket back.
 const EDITS: &[Asked] = &[
     Asked::Move("osd.0", &[("host", "h2")]),

@@ -7,8 +7,8 @@ use crush_units::{ItemId, Weight};
 use std::alloc::Global;
 use std::process::Abort;
 
-/// Each name that an item has before or after an edit of these tests, each name that such an edit
-/// mentions, and the name `x`, which no item has.
+/// Each name that an item has before or after an edit of the tests that use this list, each name
+/// that such an edit mentions, and the name `x`, which no item has.
 pub(super) const NAMES: &[&str] = &[
     "osd.0", "osd.1", "osd.2", "osd.3", "osd.10", "osd.11", "osd.12", "osd.13", "h1", "h2", "h3",
     "h9", "hq", "hx", "hy", "r1", "r9", "rx", "default", "other", "x",

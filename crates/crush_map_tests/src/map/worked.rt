@@ -505,9 +505,9 @@ fn what_batches_of_weights_do_is_looked_up(rt: HostRuntime) {
     make_all(&rt, rt.alloc(), BATCHES_OF_WEIGHTS);
 }
 
-/// Batches that remove devices and empty buckets. The second and the third batch also add removed
-/// items again, some of them with another id. The first two batches are refused at their last edit,
-/// and the third batch succeeds.
+/// Batches that remove devices, and buckets without items. The second and the third batch also add
+/// removed items again, some of them with another id. The first two batches are refused at their
+/// last edit, and the third batch succeeds.
 const BATCHES_OF_REMOVALS: &[Line] = &[
     Line {
         asked: &[
