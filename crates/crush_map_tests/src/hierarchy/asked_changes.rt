@@ -242,8 +242,8 @@ fn exchange_asks(rt: &impl Abort, guide: &Asked<'_>, often: u32) -> bool {
 }
 
 /// The guide is used once for the item, and once for each bucket above the item. Two buckets are
-/// above osd.0, one is above h1, one is above h2, and none is above osd.3. An exchange of h1 and h2
-/// uses the guide 2 times for each of them.
+/// above osd.0, one is above h1, one is above h2, and none is above osd.3. The test whether h1 and
+/// h2 can be exchanged uses the guide 2 times for each of them, and so does the exchange.
 pub(super) fn changes_ask(rt: &(impl Abort + AllocGlobal), guide: &Asked<'_>) -> bool {
     detach_asks(rt, guide, &device_item(rt, 0), 3)
         && detach_asks(rt, guide, &bucket_item(rt, 2), 2)
