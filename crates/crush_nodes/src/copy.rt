@@ -1,8 +1,8 @@
 //! Copies of items with everything below them.
 //!
-//! [`copy_items`] calls itself once for each level of nested buckets, and each of these calls needs
-//! stack. So the other work of a level is in functions that are `inline(never)`, which keeps their
-//! variables out of the nested frames.
+//! [`copy_items`] calls itself for each bucket, so calls nest as deep as buckets nest, and each of
+//! these nested calls needs stack. So the other work of a call is in functions that are
+//! `inline(never)`, which keeps their variables out of the nested frames.
 
 ghost use Rattle.std.specs.Prelude.{◌≡◌, ℕ, ◌<◌, ◌+◌, ◌∷◌, [], map, IfOk, OnOk, vec_len, vec_capacity};
 ghost use Rattle.crush_model.specs.Items.{bucket, device, none};
