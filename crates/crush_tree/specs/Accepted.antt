@@ -1,4 +1,4 @@
--- What the tests return that say whether new items can be attached at a place of a forest. In these definitions `answer` is the result of the test.
+-- The results of the tests that say whether new items can be attached at a place of a forest. In these definitions `answer` is the result of the test.
 use Rattle.std.specs.Prelude.{◌≡◌, ◌↔◌, ◌≤◌, ◌+◌, List, Bool, IsTrue}
 use Rattle.std.specs.Bool.{OnTrue}
 use Rattle.crush_units.specs.declared.limits.TheConstants.{MOST_BUCKETS, MOST_DEVICES}
