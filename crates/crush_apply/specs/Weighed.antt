@@ -1,4 +1,4 @@
--- When Reweight and ReweightSubtree aren't refused, except that the sums after the edit are not tested yet.
+-- When Reweight and ReweightSubtree can be applied. The sums after the edit are not tested yet.
 use Rattle.std.specs.Prelude.{◌≡◌, ℕ, List, Some, true, false}
 use Rattle.crush_units.specs.declared.id.ItemId.TheVariants.{Device, Bucket}
 use Rattle.crush_model.specs.Table.{Row, id_named, is_placed}

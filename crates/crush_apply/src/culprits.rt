@@ -15,10 +15,10 @@ use std::alloc::{Allocator, Global};
 
 /// Returns the name that a refusal is about. The name is one of the names in the refused edit.
 ///
-/// The refusal can be about a type name, about a bucket name in a location, only about the second
-/// name of a swap, or about the new name of a rename. Then the result is this name. Otherwise the
-/// result is the name of the item that the edit is for. For a swap, this is the first name.
-/// `hierarchy` and `setting` must be the values for which the edit was refused.
+/// The refusal can be about a type name, about a bucket name in a location, about the second name
+/// of a swap but not the first, or about the new name of a rename. Then the result is this name.
+/// Otherwise the result is the name of the item that the edit is for. For a swap, this is the first
+/// name. `hierarchy` and `setting` must be the values for which the edit was refused.
 pub fn culprit<'a, A: Allocator>(
     hierarchy: &Hierarchy<A>,
     setting: &Setting,

@@ -12,10 +12,10 @@ use crush_tree::WeightRun;
 use crush_units::{BucketId, DeviceId, ItemId, Name, Weight};
 use std::alloc::Allocator;
 
-/// An entry of the undo log, which says how one edit is undone. Undoing an edit can't fail. Only to
-/// restore a removed item or an old name, the index may need more memory. The index then first
-/// tries to allocate this memory, and if this fails, it uses memory that was allocated when the
-/// item was removed or renamed.
+/// An entry of the undo log, which says how one edit is undone. Undoing an edit can't fail. The
+/// index may need more memory to restore a removed item or an old name, but for nothing else. The
+/// index then first tries to allocate this memory, and if this fails, it uses memory that was
+/// allocated when the item was removed or renamed.
 #[derive(Drop)]
 pub(crate) enum Undo<A: Allocator> {
     /// The device gets back its old weight.
