@@ -111,8 +111,8 @@ impl Index {
     }
 
     /// Gives a name back to an item. The call does the same as [`Index::add_name`], but it can't
-    /// fail: if the index needs more memory, it first tries to allocate it, and if this fails, it
-    /// stores the name in `memory`.
+    /// fail: if the index needs more memory and this memory can't be allocated, the index stores
+    /// the name in `memory`.
     pub fn restore_name(&mut self, memory: NameMemory, id: ItemId)
         ensures answers { answers self.new ≡ with_name memory.name id (answers self.old) }
         ensures hashing { hashings self.new ≡ hashings self.old }
@@ -122,8 +122,8 @@ impl Index {
     }
 
     /// Adds an item that has no items below it, as the last item of a place. The call does the same
-    /// as [`Index::insert_node`], but it can't fail: if the index needs more memory, it first tries
-    /// to allocate it, and if this fails, it stores the entries in `memory`.
+    /// as [`Index::insert_node`], but it can't fail: if the index needs more memory and this memory
+    /// can't be allocated, the index stores the entries in `memory`.
     ///
     /// `hint` is the item's index among the items of the place, from 0. A wrong hint changes no
     /// answer. `memory` must be the result of [`Index::restore_memory`] for this item. It then has
