@@ -42,7 +42,7 @@ impl<A: Allocator> Hierarchy<A> {
 
     /// Gives an item its old name back, which undoes [`Hierarchy::replace_name`]. The item must
     /// exist, and no other item may have the old name. The call can't fail: if the index needs more
-    /// memory, it first tries to allocate it, and if this fails, it uses the memory that
+    /// memory and this memory can't be allocated, the index uses the memory that
     /// [`Hierarchy::replace_name`] allocated. The forest allocates nothing.
     pub fn restore_name(&mut self, id: ItemId, old: OldName<A>)
         requires { CanRestoreName id old self.old }
