@@ -20,14 +20,14 @@ abbrev pub weighed : Role → Role
 weighed lone_item = item
 weighed r = r
 
--- the word w has no fault as the next word of this form. If w is the name of an item, it only has to have no fault in the case that a weight follows it
+-- the word w has no fault as the next word of this form. If the form requires the name of an item, w must have no fault if a weight follows w, but may have a fault if no weight follows
 abbrev pub FitsForm : Draft → Form → List ℕ → Type 0
 FitsForm d (word r more) w = IsRight d (weighed r) w
 FitsForm d (done p) w = ⊥
 FitsForm d (optional k f g) w = ⊥
 FitsForm d (ahead k f g) w = ⊥
 
--- THE WORDS THAT MAY FOLLOW in this state. These are the words that have no fault in the expected role, and also the first words of the optional part that the last line has left out. `expected_at` names this role and this optional part
+-- THE WORDS THAT MAY FOLLOW in this state. These are the words that have no fault in the expected role, and also the words with which an optional part can begin if the line before has left out this part. `expected_at` names this role and this optional part
 abbrev pub MayFollow : State → List ℕ → Type 0
 MayFollow (between p) w = IsOneOf (words_of p.passed) w ⊎ FitsForm p.draft (next p) w
 MayFollow (amid d f) w = FitsForm d f w

@@ -40,7 +40,7 @@ IsInRange (number most) n = n ≤ most
 IsInRange rule_id n = n ≤ LARGEST_RULE_NUMBER
 IsInRange r v = Unit {0}
 
--- the value may be used in this role. A number or an id must be new. In the role `id_or_alg`, the value says whether a class id follows. If so, the bucket must have room for one more class id
+-- the value may be used in this role. The number of a type, and the id of a device, a bucket or a rule, must be new. In the role `id_or_alg`, the value says whether a class id follows. If so, the bucket must have room for one more class id
 abbrev pub IsFreeValue : Draft → (r : Role) → El r → Type 0
 IsFreeValue d type_number n = has_kind_number d.setting n ≡ false
 IsFreeValue d device_id n = is_there d.table (Device n) ≡ false

@@ -63,11 +63,10 @@ pub enum TextFaultKind {
 pub struct TextFault {
     /// What is wrong.
     pub kind: TextFaultKind,
-    /// The index of a byte of the text, from 0. This is the first byte of the word at fault, or the
-    /// byte that isn't allowed. If the text ends inside a statement, this is the length of the
-    /// text. If memory ran out, this is the index of the first byte of a word, and neither this
-    /// word nor a word before it has a fault. If memory ran out and the text has no words, this is
-    /// the length of the text.
+    /// The index, from 0, of the first byte of the word at fault, or of the byte that isn't
+    /// allowed. If the text ends inside a statement, this is the length of the text. If memory ran
+    /// out, this is the index of the first byte of a word, and neither this word nor a word before
+    /// it has a fault. If memory ran out and the text has no words, this is the length of the text.
     pub place: usize,
     /// What the grammar expects at this place, after the words that come before it.
     pub expected: Expected,
