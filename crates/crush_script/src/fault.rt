@@ -123,7 +123,7 @@ pub enum JobFault {
     /// index in the job, which counts bytes from 0.
     #[error("{0}")]
     Text(TextFault),
-    /// The map was read, but memory for the scripts ran out. The call may report this even if a
+    /// The map was read, but memory for the scripts ran out. `read_job` may report this even if a
     /// line of the sections is faulty.
     #[error("out of memory")]
     OutOfMemory,
