@@ -1,5 +1,5 @@
-//! Tests printed trees, and the walks from which their lines are printed. A *walk* is the list of a
-//! map's items in the order of the tree.
+//! Tests printed trees, and the walks from which their lines are printed. A *walk* is a list of
+//! items of a map, in the order of the map's tree.
 
 use super::EXAMPLE_MAP;
 use crate::maps::map_of;
