@@ -1,5 +1,5 @@
-//! Tests guarded batches of one seat, while another seat submits a call. A guarded batch names a
-//! number of changes, and is applied only if exactly this many calls have changed the map.
+//! Tests guarded batches of one seat, after another seat has submitted a call. A guarded batch
+//! names a number of changes, and is applied only if exactly this many calls have changed the map.
 
 ghost use Rattle.std.specs.Prelude.{◌≡◌};
 

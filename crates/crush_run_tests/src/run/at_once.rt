@@ -1,6 +1,6 @@
-//! Tests runs in which operators work at the same time, each in its own thread. The tests use
-//! gates, whose methods are called before and after each call of an operator. The gates show that
-//! the threads really work at the same time, which no contract promises.
+//! Tests runs in which operators work at the same time, each in its own thread. Some of the tests
+//! use gates, whose methods are called before and after each call of an operator. With a gate, a
+//! test shows that the threads really work at the same time, which no contract promises.
 
 use super::{AT_ONCE, joined, run_map, summary};
 use crate::maps::PLAIN;

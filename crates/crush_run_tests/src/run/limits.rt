@@ -5,7 +5,7 @@ use super::{AT_ONCE, joined, run_map, summary};
 use std::process::Abort;
 
 /// The largest number of buckets that a map can have. In the map of this test, each of these
-/// buckets is inside of the next one.
+/// buckets except for the last one is inside of the next one.
 const DEPTH: u32 = 4096;
 
 fn put_behind(rt: &impl Abort, text: &mut Vec<u8>, bytes: &[u8]) {
