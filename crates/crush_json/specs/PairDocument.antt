@@ -38,7 +38,7 @@ pair_document s p e = object (whole_if (codes "id") (option_map item_number (pai
 abbrev pub pair_change : Identity → SettingData → SettingData → EntryPair → List Data
 pair_change by s p e = if is_some (pair_difference by Changes s p e) then pair_document s p e ∷ [] else []
 
--- the values for all pairs of a comparison about whose items the two maps say different things
+-- the values for the pairs of a comparison, in the order of the pairs. A pair has a value only if the two maps say different things about the pair's item (`pair_change`)
 abbrev pub pair_changes : {A B : _} → Comparison A B → List Data
 pair_changes both = flat_map (λ p. pair_change both.identity both.old.map.now.setting both.new.map.now.setting (pair_entries both p)) both.pairs.items
 

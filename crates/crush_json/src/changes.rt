@@ -71,8 +71,8 @@ fn push_pair<A: Allocator, B: Allocator>(
     }
 }
 
-/// Whether the two maps say different things about the item of this pair. They do so, too, if only
-/// one of them has the item.
+/// Whether the two maps say different things about the item of this pair. The result is also true
+/// if only one of the maps has the item.
 fn differs<A: Allocator, B: Allocator>(both: &Comparison<'_, A, B>, pair: Pair) -> bool
     ensures { result ≡ is_some (pair_difference both.now.identity Changes
         both.now.old.map.now.setting both.now.new.map.now.setting (pair_entries both.now pair)) }

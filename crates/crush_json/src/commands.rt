@@ -23,8 +23,8 @@ pub(crate) fn push_command(alloc: Global, edit: &Edit, out: &mut Document) -> Re
     push_prefixed(alloc, prefix.as_str(), edit, out)
 }
 
-/// Writes the edit as a command. `prefix` has the words with which the command begins, such as `osd
-/// crush move`.
+/// Writes the edit as a command. `prefix` has the words with which the command begins, for example
+/// `osd crush move`.
 fn push_prefixed(
     alloc: Global,
     prefix: &str,
