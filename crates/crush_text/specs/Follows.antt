@@ -20,7 +20,7 @@ abbrev pub weighed : Role → Role
 weighed lone_item = item
 weighed r = r
 
--- the word w has no fault as the next word of this form. If the form requires the name of an item, w must have no fault if a weight follows w, but may have a fault if no weight follows
+-- the word w has no fault as the next word of this form. If the form requires the name of an item, w is judged as if a weight followed it (`weighed`)
 abbrev pub FitsForm : Draft → Form → List ℕ → Type 0
 FitsForm d (word r more) w = IsRight d (weighed r) w
 FitsForm d (done p) w = ⊥
