@@ -473,8 +473,8 @@ fn a_name_with_an_escape_is_told_without_it(rt: HostRuntime) {
 /// that names its operator.
 const JOINED: &[u8] = b"# nothing\n%operator alice\nrm x\n%operator bob\nrm y\nfly z\n";
 
-/// A job like `JOINED`, but without the line `fly z`. The `%operator` line that was added before the
-/// second script names the operator of the first script.
+/// A job like `JOINED`, but without the line `fly z`. The `%operator` line that was added before
+/// the second script names the operator of the first script.
 const DUPLICATE: &[u8] = b"# nothing\n%operator alice\nrm x\n%operator alice\nrm y\n";
 
 #[test]
