@@ -445,7 +445,8 @@ fn exact_of_other(flags: OutputFlags<'_>) -> bool
 
 /// Returns the line of an error if some of these flags and options can't be given together, or if
 /// one of them needs another flag or option that isn't given. If there are several such errors,
-/// returns the line for which the code below tests first. Returns `None` if there is no such error.
+/// returns the line of the error for which the code below tests first. Returns `None` if there is
+/// no such error.
 fn complaint(flags: OutputFlags<'_>) -> Option<&'static str>
     ensures { option_map (λ text. text.now) result ≡ complaint (flags_data flags.entry) }
 {
