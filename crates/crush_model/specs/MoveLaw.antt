@@ -19,13 +19,13 @@ IsOne (bucket h w m kids none) = Unit {0}
 IsOne (bucket h w m kids (device e rest)) = ⊥
 IsOne (bucket h w m kids (bucket g v n more rest)) = ⊥
 
--- let n be an item i of the table with all items below it, and let the new parent p, if there is one, be neither i nor below i. Then removing all rows of n and appending them with the parent p gives the same table as removing just the row of i and appending this row with the parent p
+-- let n be an item i of the table with all items below it, and let the new parent p, if there is one, be neither i nor below i. Then removing all rows of n and appending them with the parent p gives the same table (Same) as removing just the row of i and appending this row with the parent p
 abbrev pub Relocates : List Row → Type 0
 Relocates t = (i : ItemId) (p : Option ℕ) (n : Items) (r : Row) → row_of t i ≡ Some r → IsOne n
     → Same (rows None n) (part i t) → IfSome p (λ b. is_part t i (Bucket b) ≡ false)
     → Same (table_without i t ++ rows p n) (without_row i t ++ record r { parent = p } ∷ [])
 
--- the law Relocates for a device d that also gets the weight w: removing the device and appending it with the parent p and the weight w gives the same table as removing just its row and appending this row with the parent p and the weight w
+-- the law Relocates for a device d that also gets the weight w: removing the device and appending it with the parent p and the weight w gives the same table (Same) as removing just its row and appending this row with the parent p and the weight w
 abbrev pub RelocatesDevice : List Row → Type 0
 RelocatesDevice t = (p : Option ℕ) (d : LeafData) (w : ℕ) (r : Row)
     → row_of t (Device d.id) ≡ Some r → Same (rows None (device d none)) (part (Device d.id) t)
@@ -33,12 +33,12 @@ RelocatesDevice t = (p : Option ℕ) (d : LeafData) (w : ℕ) (r : Row)
     → Same (table_without (Device d.id) t ++ rows p (device (record d { weight = w }) none))
     (without_row (Device d.id) t ++ record r { parent = p; weight = w } ∷ [])
 
--- removing a bucket without items, with all items below it, removes just the bucket's own row
+-- if a bucket has no items, removing the bucket and all items below it (table_without) removes just the bucket's own row
 abbrev pub EmptyIsRow : Type 0
 EmptyIsRow = (t : List Row) (b : ℕ) → kids t b ≡ []
     → table_without (Bucket b) t ≡ without_row (Bucket b) t
 
--- removing a device, with all items below it, removes just the device's own row
+-- removing a device and all items below it (table_without) removes just the device's own row, because no item is below a device
 abbrev pub DeviceIsRow : Type 0
 DeviceIsRow = (t : List Row) (d : ℕ) → table_without (Device d) t ≡ without_row (Device d) t
 

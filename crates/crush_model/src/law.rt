@@ -111,8 +111,9 @@ pub fn empty_bucket_is_one_row()
     ensures sums { EmptyKeepsSums }
 {}
 
-/// The law that rows which are appended to a table add to the numbers of devices and buckets, to
-/// the total weight and to the used ids of the table.
+/// The law about rows that are appended to a table: their numbers of devices and buckets and their
+/// total weight are added to those of the table, and their used ids are appended to those of the
+/// table.
 pub fn counts_add()
     ensures { (t u : List Row) → AddsRows t u }
 {}
