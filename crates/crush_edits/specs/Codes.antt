@@ -1,4 +1,4 @@
--- Encodings of a setting and of its parts as values of plain types. Each encoding can be decoded to the same value again.
+-- Encodings of a setting and of its parts as values of plain types. Decoding the encoding of a value gives this value again.
 use Rattle.std.specs.Coded.{Coded, code_by, coded×, coded_ℕ, coded_ℤ, coded_bool, coded_list, coded_option}
 use Rattle.std.specs.Prelude.{refl, ◌≡◌, ℕ, ℤ, pos, List, [], Option, None, Bool, false, ◌==◌, if◌then◌else◌}
 use Rattle.crush_edits.specs.Setting.{KindData, TunableData, StepData, take, choose, set, emit, RuleData, SettingData}

@@ -1,4 +1,4 @@
--- Laws about puts, which put an item into the bucket of the first stop of a route: the steps of the code give the table of the put, and this table is lawful.
+-- Laws about puts, which put an item into the bucket of the first stop of a route: the steps of the code give the table of the put, and this table is lawful. Most of the laws require that the table is lawful and that the stops are a route (IsRoute). The laws in which an item is detached also require that the receiver is neither the item nor below it (IsApart), and that there are not too many items.
 use Rattle.std.specs.Prelude.{◌≡◌, ◌+◌, ◌<◌, ◌≤◌, ◌++◌, [], ℕ, List, Some, None, IfSome, true, false, length, bytes_eq}
 use Rattle.std.specs.List.{count_by}
 use Rattle.crush_units.specs.declared.id.ItemId.{ItemId}
@@ -76,7 +76,7 @@ abbrev pub PutsBoxedNew : Type 0
 PutsBoxedNew = (m : ℕ) (t : List Row) (ps : List StopData) (d : LeafData) → Lawful t → IsRoute t ps → is_there t (Device d.id) ≡ false
     → OnceIds (t ++ rows (receiver t ps) (route_boxes m (device d none) t ps)) × (is_too_heavy (t ++ rows (receiver t ps) (route_boxes m (device d none) t ps)) ≡ is_too_heavy (put t (device_row None d) ps))
 
--- LAWFUL AFTER: putting an item of a lawful table with the weight w gives a lawful table if four conditions hold. The receiver is neither the item nor below it. With the weight w, the item's row is valid in any bucket. No sum of the result is too large. The result doesn't have too many items
+-- LAWFUL AFTER: putting an item of a lawful table, with w as the item's weight, gives a lawful table if four conditions hold. The receiver is neither the item nor below it. With the weight w, the item's row is valid in any bucket. No sum of the result is too large. The result doesn't have too many items
 abbrev pub PutKeepsLawful : Type 0
 PutKeepsLawful = (t : List Row) (ps : List StopData) (r : Row) (w : ℕ) → Lawful t → IsRoute t ps → row_of t r.id ≡ Some r → IsApart t r.id ps → ((b : ℕ) → IsRow (record r { parent = Some b; weight = w }))
     → is_too_heavy (put t (record r { weight = w }) ps) ≡ false → has_too_many (put t (record r { weight = w }) ps) ≡ false → Lawful (put t (record r { weight = w }) ps)

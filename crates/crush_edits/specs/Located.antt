@@ -41,7 +41,7 @@ is_taken t i n = meets (λ j. not (same_id j i)) (id_named t n) || meets (λ m. 
 abbrev pub is_wrong_kind : List Row → List StopData → Bool
 is_wrong_kind t ps = meets (λ (p : StopData). meets (λ i. meets (λ k. not (k == p.kind)) (kind_of t i)) (id_named t p.name)) (end_stop t ps)
 
--- THE REFUSALS that are about the location alone, with their tests: the location has a name twice, or has the name of type 0; it has an unknown type; it has no pairs
+-- THE REFUSALS that are about the location alone, with their tests: the location has a type name twice, or a bucket name twice, or the name of type 0 as a type name; it has an unknown type; it has no pairs
 abbrev pub location_tests : SettingData → List Pair → List (Refusal × Bool)
 location_tests s l = (BadLocation, is_bad_location s l) ∷ ((NoSuchType, has_no_kind s l) ∷ ((NoPlace, length l == 0) ∷ []))
 

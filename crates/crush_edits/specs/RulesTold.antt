@@ -1,4 +1,4 @@
--- The set of the buckets that rules take. The set has the distances of their ids below 0.
+-- The set of the buckets that rules take. For each bucket, the set has the distance of the bucket's id below 0.
 use Rattle.std.specs.Prelude.{◌≡◌, ◌||◌, ℕ, List}
 use Rattle.std.specs.BTreeSet.{BTreeSet, contains}
 use Rattle.std.specs.List.{list_any}

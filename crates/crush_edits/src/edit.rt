@@ -37,8 +37,8 @@ pub enum Edit {
     /// Puts a device at a location. If the map has no device with this id, the edit creates the
     /// device. `how` says what happens to a device that is already in a bucket, and which weight
     /// the device gets (`add`, `create-or-move` or `set`). [`Edit::place`] creates such an edit
-    /// with the name `osd.N` for the id N. Only with this name is the edit's command in a script
-    /// parsed as the same edit, because the command has no id.
+    /// with the name `osd.N` for the id N. The edit's command in a script is parsed as the same
+    /// edit only if the device has this name, because the command has no id.
     Place {
         how: Placing,
         device: DeviceId,

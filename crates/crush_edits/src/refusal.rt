@@ -28,8 +28,9 @@ pub enum Refusal {
     /// The weight is above 2147483647 units. The edit is refused even if it wouldn't use the
     /// weight.
     WeightTooLarge,
-    /// The map has no item with a name that the edit gives. `Rename` is refused for this reason
-    /// only if the map has neither the old nor the new name.
+    /// The map doesn't have the item that the edit is to change, move or remove, or doesn't have
+    /// one of the two items of a `Swap`. `Rename` is refused for this reason only if the map has
+    /// neither the old nor the new name.
     NoSuchItem,
     /// The name already belongs to another item, or the device with the id of a `Place` has another
     /// name. `Rename` is refused for this reason if the map has both the old and the new name, even

@@ -181,16 +181,16 @@ impl Setting {
         Ok(())
     }
 
-    /// Returns the name of each type by the type's number. The types are in the order in which they
-    /// were added.
+    /// Returns the types as an index map from their numbers to their names, in the order in which
+    /// the types were added.
     pub fn kinds(&self) -> &IndexMap<TypeId, Name<Global>>
         ensures { map kind_data result.now.entries ≡ self.now.kinds }
     {
         self.kinds.names()
     }
 
-    /// Returns the value of each tunable by the tunable's name. The tunables are in the order in
-    /// which they were added.
+    /// Returns the tunables as an index map from their names to their values, in the order in which
+    /// the tunables were added.
     pub fn tunables(&self) -> &IndexMap<Name<Global>, u32>
         ensures { map tunable_data result.now.entries ≡ self.now.tunables }
     {

@@ -2,8 +2,8 @@
 //! names. The stops are the location's pairs, in ascending order of their types' numbers. The first
 //! stops may name buckets that the map doesn't have. The put then creates these buckets, each
 //! inside the next. The uppermost created bucket is put into the bucket that the next stop names.
-//! If there is no next stop, it becomes a root. A list of stops along which an item can be put is a
-//! *route*.
+//! If there is no next stop, the uppermost created bucket becomes a root. A list of stops along
+//! which an item can be put is a *route*.
 
 ghost use Rattle.crush_edits.specs.LawPut.{RoomForNew, RoomForNewDevice, PutMoves, PutMovesDevice, PutsNew, PutTakes, PutsBoxed, PutsBoxedDevice, PutsBoxedNew, PutKeepsLawful, PutNewKeepsLawful, PutCounts, PutNewCounts, PutChanges, PutNewChanges, PutFits, NoneNew, PutMovesOnly, NextStays, FormStays, EditedIsOwn, FullOfDevices, FullOfBuckets};
 
@@ -22,9 +22,11 @@ pub fn puts_are_steps()
     ensures boxed_new { PutsBoxedNew }
 {}
 
-/// If sums and counts stay in range, a put keeps the table lawful. If the map's setting (its types,
-/// tunables and rules) fits the table before and has the type of the item, then it also fits the
-/// table afterwards.
+/// If sums and counts stay in range, a put keeps the table lawful. This requires that the item is
+/// not put into itself or below itself, and that its new row is well-formed. If the item is a
+/// device that the table doesn't have, no row and no stop may have its name. If the map's setting
+/// (its types, tunables and rules) fits the table before and has the type of the item, then it also
+/// fits the table afterwards.
 pub fn puts_keep_lawful()
     ensures lawful { PutKeepsLawful }
     ensures lawful_new { PutNewKeepsLawful }

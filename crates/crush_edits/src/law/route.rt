@@ -12,10 +12,10 @@ pub fn stops_are_pairs_in_order()
 {}
 
 /// Suppose that the map's setting fits the table, that a valid location passes its tests, and that
-/// the first stop that names an item of the table doesn't name a device. Then the stops of the
-/// location are a route. Each stop has the name of a bucket of the location. In a lawful table, no
-/// item has the id or the name of a bucket that a route creates. For each route, there is a bucket
-/// into which the item is put.
+/// the first stop that names an item of the table, if there is one, doesn't name a device. Then the
+/// stops of the location are a route. The name of each stop is the bucket name of one of the
+/// location's pairs. In a lawful table, no item has the id or the name of a bucket that a route
+/// creates. For each route, there is a bucket into which the item is put.
 pub fn locations_are_routes()
     ensures route { LocationIsRoute }
     ensures other { OtherIsNoStop }
