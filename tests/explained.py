@@ -1,5 +1,17 @@
-"""What `--explain` tells below the one line on standard error, by docs/user/FORMATS.md; the sentences are those of
-docs/user/RULES.md."""
+"""Computes the lines that `--explain` prints: a part of the plain model.
+
+The plain model is a second implementation of crushedit, in Python, with which tests compare the program. With
+`--explain`, crushedit prints more lines on standard error after the first line. These lines say where an error is, and
+what is wrong. This module computes these lines as the page docs/user/FORMATS.md describes them. It reads the sentences
+from the tables of the page docs/user/RULES.md. It also computes the lines that `--no-make` prints (`created_text`).
+
+- A *fault* is the reason why the text of a map or a job is invalid. A *refusal* is the reason why a map refuses a
+  command.
+- The *place* of a word in a text is the number of bytes before the word. The model reads each byte of a text as one
+  character.
+- A *call* is a batch, or a command that is in no batch. Its *history line* shows the call and the reply to the call.
+- An *edit* is one command. The functions take an edit as the list of its words, or as one string (`edit_reason`).
+"""
 
 import collections
 import os
@@ -9,18 +21,24 @@ import re
 from model import is_change, make, number_of, route, text_of, units_of
 
 RULES = pathlib.Path(__file__).resolve().parent.parent / "docs/user/RULES.md"
+# A message shows at most 72 bytes of a line, and begins at most 40 bytes before the place of the error.
 MOST_SHOWN, MOST_BEFORE = 72, 40
-# For how many refused calls, and for how many created buckets, a name is looked for that is nearly one that isn't there.
+# crushedit searches for similar names only for the first 256 refused calls, and only for the first 256 created
+# buckets.
 MOST_LOOKS = 256
 
 
 def unquoted(cell):
-    """A sentence that is in backquotes, two if it has backquotes itself."""
+    """Returns the sentence of a table's cell without the backquotes around it.
+
+    If the sentence itself has backquotes, the cell has two backquotes on each side of the sentence."""
     return cell[2:-2].strip(" ") if cell.startswith("``") else cell.strip("`")
 
 
 def sentences(heading, name):
-    """The sentences of a table of RULES.md, by the words of the column `name`."""
+    """Returns the sentences of the table in a section of RULES.md, by the names in the table's column `name`.
+
+    heading is the heading of the section."""
     section = RULES.read_text().partition(f"\n## {heading}\n")[2].partition("\n## ")[0]
     rows = [re.split(r" ?\| ?", line)[1:-1] for line in re.findall(r"(?m)^\|.*\|$", section)]
     own, said = rows[0].index(name), rows[0].index("Sentence")
@@ -30,7 +48,7 @@ def sentences(heading, name):
 OF_TEXTS, OF_JOBS = sentences("Faults of a text", "Fault"), sentences("Faults of a job", "Fault")
 OF_REFUSALS, OF_RUNS = sentences("Refusals", "Refusal"), sentences("Sentences of runs", "Line")
 OF_NAMES = sentences("Refusals that name what is in the way", "Refusal")
-# The forms of lines by their first words, and what each word behind is to be.
+# The key is the first word of a line. The value has the form of the rest of the line, and the kinds of its words.
 FORMS = {
     "%operator": ("NAME", ["name"]), "begin": ("at N", ["at", "count"]), "commit": ("", []),
     "add": ("osd.N WEIGHT TYPE=NAME ..", ["device", "weight", "pairs"]),
@@ -42,25 +60,29 @@ FORMS = {
     "rename-bucket": ("FROM TO", ["name", "name"]), "set-device-class": ("CLASS NAME", ["name", "name"]),
     "rm-device-class": ("NAME", ["name"]),
 }
-# The commands in the order in which one is looked for that is near to a word.
+# The commands, `begin` and `commit`, in the order in which `no_command` compares them with a mistyped word.
 COMMANDS = ["add", "set", "create-or-move", "move", "swap-bucket", "reweight", "reweight-subtree", "rm", "remove",
             "add-bucket", "rename-bucket", "set-device-class", "rm-device-class", "begin", "commit"]
 OPEN, MOST_EDITS = "a batch is already open: end it with `commit`", "a batch has at most 65536 edits"
+# The sentences for a fault of a line `%operator NAME` that crushedit itself has put before the script of a file.
 OF_FILES = {
     "BadLine": "the file's name can't be used as an operator's name: begin the file with a line %operator NAME",
     "DuplicateOperator": "another operator above has this name: give one of the two files a line %operator NAME",
 }
-# What is wanted in a map's text at each place of its grammar, and the range of a number there.
+# Phrases for what the grammar of a map's text allows at some places, and ranges of numbers.
 STATEMENT = "`tunable`, `device`, `type`, `rule` or the name of a type"
 LATER = "`rule` or the name of a type; tunables, devices and types must come before the first bucket or rule"
 STEP_WORDS = "`take`, `choose`, `chooseleaf`, `emit` or `set_..`"
 LARGE, NEGATIVE = "0 to 2147483647", "-1 to -2147483648"
 NEGATIVE_ID = "a negative id, such as -2", NEGATIVE
+# The sentence for most texts in which already the first byte is wrong.
 NOT_BEGUN = "this is not a text map: use `crushtool -d` to make one"
 
 
 def shown(text):
-    """A text as messages show it, of which each character is a byte: none of them can control a terminal."""
+    """Returns a text as messages show it: without bytes that can control a terminal.
+
+    A tab or a carriage return becomes a space, and any other byte that isn't printable ASCII becomes `?`."""
     return "".join(" " if byte in "\t\r" else byte if " " <= byte <= "~" else "?" for byte in text)
 
 
@@ -73,7 +95,7 @@ def is_name(word):
 
 
 def weight_fault(word):
-    """Whether a word is a weight ("") or too large a one, or no weight's text."""
+    """Returns "" if a word is a weight, "large" if the word is a weight that is too large, and otherwise "syntax"."""
     if not re.fullmatch(r"[0-9]{1,10}(\.[0-9]{1,18})?", word):
         return "syntax"
     return "" if units_of(word) <= 2**32 - 1 else "large"
@@ -105,7 +127,10 @@ def weight_meant(word):
 
 
 def wrong(slot, word, count):
-    """What is told of a word that doesn't fit, behind so many pairs."""
+    """Returns what `--explain` says about a word of a script's line that doesn't fit.
+
+    slot is the kind of word that fits here (as in FORMS), or "" if the form has no more words. count is the number of
+    pairs TYPE=NAME before the word."""
     told = f"`{shown_line(word)}`"
     if slot == "device":
         digits = re.sub("^osd\\.", "", bare(word))
@@ -139,7 +164,10 @@ def line_words(line):
 
 
 def line_reason(line):
-    """The number of the word of a line that doesn't fit, if the line has it, and what is told: the form, and this word."""
+    """Returns the index of the word that makes a script's line invalid, and what `--explain` says about the line.
+
+    The index counts the words of the line from 0. It is None if none of these words is wrong, for example if a word is
+    missing. If a word is wrong or missing, what `--explain` says begins with the form of the line."""
     first, *rest = line_words(line)
     if first not in FORMS:
         return None, "a line that begins with % must be `%operator NAME`"
@@ -160,7 +188,9 @@ def line_reason(line):
 
 
 def is_near_command(word, command):
-    """Whether one byte is changed, left out or put in, or two beside one another are exchanged."""
+    """Returns whether a word becomes the command by one small change.
+
+    Such a change replaces, removes or adds one byte, or exchanges two neighbouring bytes."""
     same = len(os.path.commonprefix([word, command]))
     word, command = word[same:], command[same:]
     return word[1:] == command[1:] or word[1:] == command or word == command[1:] or (
@@ -168,7 +198,7 @@ def is_near_command(word, command):
 
 
 def no_command(line):
-    """What is told of a line whose first word is no command."""
+    """Returns what `--explain` says about a line whose first word isn't a command."""
     words = line_words(line)
     if words[:3] == ["ceph", "osd", "crush"]:
         return "leave out `ceph osd crush`"
@@ -177,7 +207,10 @@ def no_command(line):
 
 
 def bucket_wanted(words):
-    """What is wanted behind these words of a bucket, which begin behind its name."""
+    """Returns what the grammar allows after these words of a bucket.
+
+    The first of these words is the word after the bucket's name. If the grammar requires a number, the result is a
+    pair of a phrase and the range of the number. Otherwise the result is only a phrase."""
     head = ["`{`", "`id`", NEGATIVE_ID]
     if len(words) < len(head):
         return head[len(words)]
@@ -213,7 +246,9 @@ def bucket_wanted(words):
 
 
 def rule_wanted(words):
-    """The same of a rule."""
+    """Returns what the grammar allows after these words of a rule, in the form that `bucket_wanted` returns.
+
+    The first of these words is the word after the rule's name."""
     head = ["`{`", "`id` or `ruleset`", ("a number", LARGE), "`type`", "a rule type, such as replicated"]
     if len(words) < len(head):
         return head[len(words)]
@@ -248,8 +283,11 @@ def rule_wanted(words):
 
 
 def wanted(found):
-    """What is wanted behind these words, which are right, with the range of a number, and the place and the first two
-    words of the bucket or the rule that is open."""
+    """Returns what the grammar allows after these words of a map's text, and the bucket or rule that isn't closed.
+
+    found is the list of the words, each with its place before it. All these words fit the grammar. What the grammar
+    allows has the form that `bucket_wanted` returns. The bucket or rule is a pair of its place and its first two
+    words. It is None if every bucket and rule is closed, or if the last word is the first word of a bucket or rule."""
     late = False
     while found:
         texts = [word for _, word in found]
@@ -280,7 +318,9 @@ def is_first_of_line(text, at):
 
 
 def defined_at(text, name):
-    """The place of the name of the last bucket that has it in the text."""
+    """Returns the place of the name in the definition of the last bucket of this name.
+
+    If the text defines no bucket of this name, the result is 0."""
     from reading import words
 
     found = words(text)[:-1]
@@ -296,7 +336,10 @@ def not_begun(text):
 
 
 def flaw_told(text, kind, at, files):
-    """The place that is shown of a flaw, and what is told of it."""
+    """Returns the place that `--explain` shows for a fault of a map's text, and the sentence about this fault.
+
+    kind is the name of the fault, and at is its place. files are the files of the text, as `own_line` takes them. If
+    the text ends too early, the place that is shown is the place of the last word."""
     from reading import words
 
     word = (re.compile("[{}]|[A-Za-z0-9._-]+").match(text, at) or [""])[0]
@@ -322,14 +365,16 @@ def flaw_told(text, kind, at, files):
         out = "number out of range: FIRST to LAST" if re.fullmatch("-?[0-9]+", word) else OF_TEXTS[kind]
         return at, (out.replace("FIRST", first).replace("LAST", last) if last else "expected 0")
     if kind == "BadWeight":
-        # What the item is that the weight is of: the name is two words before it.
+        # The name of the weighed item is the second word before the weight. If a `device` line declares this name, the
+        # item is a device.
         is_device = any(a[1] == "device" and c[1] == found[-2][1] for a, c in zip(found, found[2:]))
         return at, ("crushtool -d prints a bucket's weight of 32768 and more as a negative number: write 0, and the sum of "
                     "the bucket's items takes its place" if word.startswith("-")
                     else OF_TEXTS[kind].replace("LAST", "32767.99998" if is_device else "65535.99998"))
     before = [word for _, word in found[-2:]]
     if kind == "DuplicateId":
-        # A type and a device come after their first words. The id of a rule comes after its brace.
+        # The number of a type or a device follows right after the word `type` or `device`. The id of a rule comes
+        # after the opening brace of the rule.
         in_rule = bool(is_open) and block.startswith("rule ")
         return at, ("another type has this number" if before[-1] == "type" else "another device has this id"
                     if before[-1] == "device" else "another rule has this id" if in_rule
@@ -365,9 +410,12 @@ def flaw_told(text, kind, at, files):
 
 
 def own_line(line, files):
-    """The file and the number there of a line of a text of these files. Each file is its name, perhaps none, its first
-    line in the text, and the number of that line in the file: 0 where it was put before the file's own. A line is of
-    the last file that begins at it or above."""
+    """Returns the name of the file from which a line of the text comes, and the number of the line in this file.
+
+    files are the files whose lines make up the text, in the order of the text. Each file is given as its name, the
+    number of its first line in the text, and the number of this line in the file itself. The name may be "". The
+    number in the file is 0 if crushedit has put this line before the lines of the file, and otherwise 1. A line
+    belongs to the last file whose first line isn't after it."""
     name, first, number = [file for file in files if file[1] <= line][-1]
     return name, line - first + number
 
@@ -378,13 +426,18 @@ def line_told(line, files):
 
 
 def command_head(line, files):
-    """What stands before a command of a batch that was refused."""
+    """Returns the words with which the reason for a refused batch begins: the file and the line of the refused
+    command.
+
+    They have the form `drain.txt:5: `, or the form `line 53: ` if the file has no name."""
     name, number = own_line(line, files)
     return f"{shown(name)}:{number}: " if name else f"line {number}: "
 
 
 def edit_lines(text):
-    """The lines of the commands of each operator, batched or not."""
+    """Returns the numbers of the lines with the commands of each operator, whether the commands are in batches or not.
+
+    The lines are counted in the whole text. The result is a dict by the names of the operators."""
     lines, own = {}, None
     for number, line in enumerate(text.split("\n"), 1):
         words = line_words(line)
@@ -396,7 +449,10 @@ def edit_lines(text):
 
 
 def place(text, at, files):
-    """Line and column of a byte, the line there, and the sign below."""
+    """Returns three lines that show a place in the text.
+
+    The first of these lines has the numbers of the line and the column. The second has the text's line at this place,
+    and the third has a `^` below the place."""
     before = text[:at]
     behind = len(before) - (before.rfind("\n") + 1)
     kept = min(behind, MOST_BEFORE)
@@ -406,8 +462,12 @@ def place(text, at, files):
 
 
 def fault_text(text, fault, files=(("", 1, 1),), of_runs=""):
-    """What is told of a fault of a text of these files, whose one line says `fault`. `of_runs` stands before it where
-    a fault without a place has a sentence among those of runs."""
+    """Returns the lines that `--explain` prints about a fault.
+
+    text is the text with the fault, and files are its files, as `own_line` takes them. fault has the words of the
+    first line on standard error, such as `byte 326: UnknownType`. of_runs is `since: ` if the text is the map of
+    `--since`, and otherwise "". If a fault of this map has no place, its sentence is in the section "Sentences of
+    runs" of RULES.md. An example is `TooLong`."""
     where, _, kind = fault.rpartition(": ")
     if where.startswith("byte "):
         at, reason = flaw_told(text, kind, int(where[5:]), files)
@@ -431,14 +491,19 @@ def fault_text(text, fault, files=(("", 1, 1),), of_runs=""):
 
 
 def unread_text(line, name="", reason=""):
-    """What is told of a run that ends with this line, where a file can't be opened or read for this reason; without one,
-    standard input can't be read."""
+    """Returns the standard error of a run with `--explain` that can't open or can't read its input.
+
+    line is the first line without `crushedit: `, such as `read fault`. name is the name of the file, and reason is the
+    system's reason. Without a reason, the input is standard input, and no line names it."""
     return f"crushedit: {line}\n  {OF_RUNS[line]}\n" + (f"  {shown(name)}: {reason}\n" if reason else "")
 
 
 def written_text(written, text):
-    """What is told of a map's text, at the head of a job: of one without a line feed that it has carriage returns, and of
-    weights of buckets that aren't the sums: each a name, the word that was written, and the sum."""
+    """Returns the lines that `--explain` prints about the map's text at the beginning of a job.
+
+    There is a line if the map's text has carriage returns, but no line feeds. There is also a line for each bucket
+    whose weight in the text isn't the sum of the weights of its devices. written has the name of each such bucket, the
+    weight as it is in the text, and the sum. text is the text of the whole job."""
     text = "" if text.startswith("%") else text.partition("\n%")[0] + "\n" * ("\n%" in text)
     alone = "\r" in text and "\n" not in text
     returns = "the text has carriage returns but no line feeds, so its first comment never ends\n" if alone else ""
@@ -446,7 +511,8 @@ def written_text(written, text):
 
 
 def by_id(map):
-    """Names by ids, the buckets from -1 downward and then the devices upward."""
+    """Returns the names of the items, as a dict by ids: first the buckets from id -1 downward, then the devices
+    upward."""
     names = {item["id"]: name for name, item in map.items.items()}
     return {number: names[number] for number in in_order(names)}
 
@@ -456,7 +522,9 @@ def in_order(numbers):
 
 
 def tree_rows(map):
-    """Depths and names: of each root all below it, and then the devices that stand in no bucket."""
+    """Yields the depth and the name of each item, in the order of the tree.
+
+    First come the roots, each followed by all items below it. Then come the devices that no bucket holds."""
 
     def of(name, depth):
         yield depth, name
@@ -473,7 +541,9 @@ def location_of(words):
 
 
 def blamed_of_location(map, at, kind):
-    """What of a location a refusal is about, or nothing."""
+    """Returns the type or bucket of a location that a refusal is about, or None if it is about another name.
+
+    at is the location, as a list of pairs of a type and a bucket. kind is the name of the refusal."""
     kinds, names = [kind for kind, _ in at], [name for _, name in at]
     if kind == "BadLocation":
         wrong = [own for place, own in enumerate(kinds) if number_of(map, own) == 0 or own in kinds[place + 1 :]]
@@ -484,7 +554,9 @@ def blamed_of_location(map, at, kind):
 
 
 def blamed(map, words, kind):
-    """The name that a refusal of a command is about, on the map that refused it."""
+    """Returns the name that the refusal of a command is about.
+
+    map is the map that refused the command, and kind is the name of the refusal."""
     command, names = words[0], words[1:]
     if command in ("add", "set", "create-or-move", "move"):
         return blamed_of_location(map, location_of(names), kind) or names[0]
@@ -499,13 +571,16 @@ def blamed(map, words, kind):
 
 
 def is_exchanged(name, other):
-    """Whether two letters beside one another are exchanged, and all else is the same."""
+    """Returns whether a name becomes the other name if two neighbouring letters are exchanged."""
     return len(name) == len(other) and any(
         name[:place] + name[place + 1] + name[place] + name[place + 2 :] == other for place in range(len(name) - 1))
 
 
 def is_near(name, other):
-    """Whether one has a letter more, less or other, has two letters exchanged, or is the other in another case."""
+    """Returns whether two names are similar.
+
+    They are similar if one of them has one letter more or one different letter, if two neighbouring letters are
+    exchanged, or if only upper and lower case differ."""
     short, long = sorted((name, other), key=len)
     if len(long) == len(short):
         return sum(a != b for a, b in zip(long, short)) <= 1 or is_exchanged(long, short) or long.lower() == short.lower()
@@ -517,7 +592,10 @@ def near_item(map, name):
 
 
 def near_name(map, name, kind):
-    """The first item or type that the name may mean, where the map has none of this name."""
+    """Returns the first similar name of an item or a type, for a name that the map doesn't have.
+
+    kind is the name of the refusal. The result is None if no name is similar, or if kind is neither `NoSuchType` nor
+    `NoSuchItem`."""
     if kind == "NoSuchType":
         return next((other for other in map.types.values() if is_near(name, other)), None)
     return near_item(map, name) if kind == "NoSuchItem" else None
@@ -528,7 +606,11 @@ def taking_rule(map, name):
 
 
 def sentence_of(words, kind, is_itself, count, near):
-    """The sentence of a refusal, with the words for which something of the map stands."""
+    """Returns the sentence about a refusal, before words in capital letters, such as NAME, are replaced.
+
+    words are the words of the refused command, and kind is the name of the refusal. is_itself says whether the command
+    would move a bucket into itself. count is the number of items in the bucket if the refusal is `NotEmpty`. near is
+    the similar name that `near_name` has found, if there is one."""
     if kind == "NotADevice" and words[0].endswith("device-class"):
         return "NAME is a bucket: only devices have a class"
     if kind == "WrongType" and words[0] == "add-bucket":
@@ -545,7 +627,9 @@ def sentence_of(words, kind, is_itself, count, near):
 
 
 def seen_in(map, words, name, kind):
-    """What the map says of the name, by the words that stand for it."""
+    """Returns what replaces the words in capital letters of a sentence about the name, except for NAME and NEAR.
+
+    The result is a dict, such as {"BUCKET": "h1"}. What it has is taken from the map that refused the command."""
     item = map.items.get(name)
     if kind == "AlreadyPlaced":
         return {"BUCKET": map.parent(name)}
@@ -559,7 +643,9 @@ def seen_in(map, words, name, kind):
 
 
 def edit_reason(map, edit, kind, looks):
-    """What was wanted of a command that the map refused so, where near names are looked for or not."""
+    """Returns the sentence that says why the map refused a command.
+
+    edit is the command, and kind is the name of the refusal. looks says whether to search for a similar name."""
     words = edit.split(" ")
     name = blamed(map, words, kind)
     near = near_name(map, name, kind) if looks else None
@@ -576,7 +662,10 @@ def after_edits(map, edits):
 
 
 def call_reason(map, call, line, heads, looks):
-    """What was wanted of a call that the map refused, which its history line tells; each of its commands has a head."""
+    """Returns the text that says why the map refused a call.
+
+    line is the history line of the call. heads has the result of `command_head` for each command of a batch. looks
+    says whether to search for a similar name."""
     at, kind = re.search(r" = refused (?:at (\d+) )?(\w+) ", line).groups()
     seen, count = re.search(r" begin at (\d+) ", line), re.search(r" changes (\d+)$", line)
     told = line.split(" ", 3)[3].rpartition(" = refused ")[0]
@@ -590,8 +679,11 @@ def call_reason(map, call, line, heads, looks):
 
 
 def refused_text(map, made, job, files):
-    """Of calls that were made, the first on this map, each with its history line: the lines of what was refused, each
-    with its sentence below, by the map that refused it. The calls are those of the job of this text."""
+    """Returns the history lines of the refused calls, each followed by a line that says why the call was refused.
+
+    made is the list of all calls of a run, each with its history line, in the order of the history. map is the map
+    before the first call. job is the text of the job with these calls, and files are its files, as `own_line` takes
+    them."""
     text, refused, given, lines = "", 0, collections.Counter(), edit_lines(job)
     for call, line in made:
         operator = line.split(" ", 3)[2]
@@ -606,18 +698,21 @@ def refused_text(map, made, job, files):
 
 
 def count_made(line):
-    """How many buckets the call of a history line created."""
+    """Returns how many buckets the call of a history line created."""
     count = re.search(r" = (?:done|dones \d+) changed \d+ made (\d+)$", line)
     return int(count[1]) if count else 0
 
 
 def makes_more(call, line):
-    """Whether a call created more buckets than it has commands that ask for one."""
+    """Returns whether a call created more buckets than it has commands `add-bucket`."""
     return count_made(line) > sum(words[0] == "add-bucket" for words in call[1])
 
 
 def created_hints(map, edits):
-    """Of each bucket that a location of these edits creates, the first on this map: the item that its name may mean."""
+    """Returns the hints for the buckets that the locations of these edits create.
+
+    The first edit is made on the given map, and each further edit on the result of the edit before it. A bucket has a
+    hint if the map before its edit has an item with a similar name."""
     text = ""
     for words in edits:
         at = location_of(words[1:])
@@ -630,8 +725,11 @@ def created_hints(map, edits):
 
 
 def created_text(map, made, explain):
-    """Of calls that were made, the first on this map, each with its history line: the lines of those that created buckets
-    unasked, and where it is wanted, below each what may be meant."""
+    """Returns the history line of each call that created more buckets than it has commands `add-bucket`.
+
+    If explain is true, the hints for the call's created buckets follow after its history line. The hints end before
+    the call with which the number of these buckets exceeds MOST_LOOKS. made is the list of all calls of a run, each
+    with its history line. map is the map before the first call."""
     text, looks = "", MOST_LOOKS
     for call, line in made:
         if makes_more(call, line):
@@ -644,8 +742,11 @@ def created_text(map, made, explain):
 
 
 def is_reason(line, reason, job, files):
-    """Whether a line below a refused one has the form of its reason, whatever the map was that refused it; a command of
-    a batch stands on a line of its operator in the job of this text."""
+    """Returns whether a line on standard error can be the reason for a refused call, whatever map refused the call.
+
+    line is the history line of the call, and reason is the line after it. If the call is a batch that isn't stale, the
+    reason must name a line on which the operator of the call has a command. job is the text of the job, and files are
+    its files, as `own_line` takes them."""
     at, kind = re.search(r" = refused (?:at (\d+) )?(\w+) ", line).groups()
     if kind == "Stale":
         return reason == f"  {call_reason(None, None, line, [], True)}\n"
