@@ -1,7 +1,12 @@
 #!/usr/bin/env python3
-"""Tests that packaging/dist.sh and tests/monitor.sh leave alone what they haven't created.
+"""Tests that packaging/dist.sh and tests/monitor.sh change only files and folders that they have created.
 
     python3 tests/folders_test.py
+
+packaging/dist.sh packs the program and its pages into an archive, and tests/monitor.sh installs and runs a monitor of
+Ceph. The test runs both scripts in temporary folders that already have files. It also tests that dist.sh works with
+any umask and with an exported CDPATH. The test needs neither root nor the program, and starts no monitor. It prints
+the results as `unittest` does. The status is 1 if a test fails.
 """
 import os
 import pathlib
@@ -25,7 +30,8 @@ class Folders(unittest.TestCase):
                               stderr=subprocess.STDOUT, env={**os.environ, **environment})
 
     def pack(self, shell="", **environment):
-        """Packs a program of a version of its own, and returns the files that the archive has."""
+        """Packs a stand-in for the program, whose version is 0.0.9, and returns the mode of each file of the
+        archive."""
         program = self.here / "program"
         program.write_text("#!/bin/sh\necho 'crushedit 0.0.9 (a trial)'\n")
         program.chmod(0o755)
@@ -59,7 +65,7 @@ class Folders(unittest.TestCase):
         (self.here / "mon" / "mine").write_text("mine")
         (self.here / "etc" / "ceph").mkdir(parents=True)
         (self.here / "etc" / "ceph" / "ceph.conf").write_text("mine")
-        # If the script doesn't refuse, nothing is fetched or started.
+        # If monitor.sh wrongly accepts the folder, these stand-ins make sure that it fetches and starts nothing.
         tools = self.here / "etc" / "tools"
         tools.mkdir()
         for name in ("debootstrap", "apt-get", "unshare", "chroot"):

@@ -1,4 +1,8 @@
-"""Ceph's own commands for a list of edits, by the plain model."""
+"""Computes Ceph's own commands for a list of edits, as `--as-ceph` prints them: a part of the plain model.
+
+The plain model is a second implementation of crushedit, in Python, with which tests compare the program. An *edit* is
+one command of crushedit, as the list of its words. A command of Ceph can do several edits.
+"""
 
 from model import run_one, shown, with_exact_weight
 
@@ -10,7 +14,9 @@ def is_placed(map, name):
 
 
 def leaves_old_name(map, words):
-    """Whether an edit renames a bucket that a rule of the map takes with a class."""
+    """Returns whether an edit renames a bucket that a rule of the map takes with a class.
+
+    Ceph keeps a copy of such a bucket for the class. The copy keeps its old name until a `reweight-all`."""
     if words[0] != "rename-bucket":
         return False
     taken = [number for rule in map.rules for line, number in rule["lines"] if number is not None and " class " in line]
@@ -18,8 +24,11 @@ def leaves_old_name(map, words):
 
 
 def steps_of(map, edits):
-    """The words of each edit as Ceph is asked to do it, and those of each `reweight-all`. A device that no bucket holds
-    is added where it was set."""
+    """Yields the steps that Ceph must do for these edits: the words of each edit, and `reweight-all`.
+
+    The first edit is made on the given map. If no bucket holds the device of a `set`, the step is an `add`. A
+    `reweight-all` follows after an edit for which `leaves_old_name` is true. If several such edits follow one another,
+    it follows only after the last one."""
     was_left = False
     for words in edits:
         is_left = leaves_old_name(map, words)
@@ -33,14 +42,14 @@ def steps_of(map, edits):
 
 
 def is_joined(last, step):
-    """Whether the command that does the last step does this step, too."""
+    """Returns whether one command of Ceph can do both a step and the last step before it."""
     kinds = (last[0], step[0])
     return (kinds == ("rm-device-class", "rm-device-class")
             or kinds in (("add-bucket", "move"), ("set-device-class", "set-device-class")) and last[1] == step[1])
 
 
 def commands_of_ceph(map, edits):
-    """The words of each command, for edits of which the first is made on this map."""
+    """Returns the words of each command of Ceph for these edits. The first edit is made on the given map."""
     commands, last = [], None
     for step in steps_of(map, edits):
         if last and is_joined(last, step):
@@ -52,7 +61,7 @@ def commands_of_ceph(map, edits):
 
 
 def ceph_lines(map, edits):
-    """The number of commands, and a line for each command. Weights have six decimals."""
+    """Returns the line `# N commands`, and a line for each command of Ceph. Weights have six decimal digits."""
     commands = commands_of_ceph(map, edits)
     lines = [f"# {len(commands)} commands"]
     for words in commands:

@@ -1,17 +1,30 @@
-"""Compares the map of `--json` with what Ceph's own `crushtool --dump` tells of the same map.
+"""Compares the map in the documents of `--json` with the output of Ceph's `crushtool --dump` for the same map.
 
     python3 tests/json_by_crushtool.py crates/crushedit/out/crushedit [MAPS [SEED [FILE ..]]]
 
-Every other map is of `crushtool --build`, of layers of chance, and then weighed by `--reweight-item`; the others are of
-chance (`against_crushtool.py`), with classes and rules of all steps. They are compiled and summed by crushtool, which
-prints and dumps that one binary map; what it prints is read here. Behind these come the texts of maps of FILES, those
-that crushedit refuses left out, which is told. Of every third map the line of type 0 is taken away, where no rule needs it.
+The test makes MAPS maps (40 if MAPS isn't given), and then reads the map's text in each FILE. Without a SEED, the seed
+is random. The test needs a `crushtool` of version 18. The environment variable CRUSHTOOL can name another crushtool
+than the one in the PATH.
 
-Devices, types, buckets, and rules have to be equal, with their order, as lists of objects: what crushtool tells beside
-that is taken from docs/user/json.md, and has to be exactly that. These are a device of each unused id below the greatest,
-which is called `deviceN`, a type 0 called `device` where none is declared, a bucket of each class, whose name has `~`, of
-which each has to be an id of a class here, and steps that it tells by numbers. The status is 1 where anything else
-is another. The variable CRUSHTOOL names another crushtool than the one that is installed; it has to be of version 18.
+- Every other map comes from `crushtool --build`, with random layers. Some of its devices then get other weights with
+  `--reweight-item`. The other maps are the random maps of `against_crushtool.py`, with device classes, and with rules
+  that have random steps.
+- If crushedit refuses the map of a FILE, the test leaves out this FILE, and prints its name.
+- From every third map, the test removes the line of type 0, unless a rule needs this type.
+
+crushtool compiles each map, and computes the weights of its buckets anew. Then crushtool prints the resulting binary
+map in two forms: as a text, which crushedit reads, and with `--dump`. The lists of devices, types, buckets and rules
+must be equal in crushedit's document and in the dump, also in their order. The page docs/user/json.md says what
+crushtool prints in another way, or in addition. The test accepts only the following differences in these four lists:
+
+- A device `deviceN` for each unused id N below the greatest id of a device.
+- A type with the number 0 and the name `device`, if the map declares no type 0.
+- The buckets of *class trees*, that is, Ceph's copies of the buckets for each device class. The ids of these buckets
+  must be exactly the class ids in the map's text, and their names must be `NAME~CLASS`.
+- A number in place of the name of a rule's step, for the steps in NUMBERED.
+
+If all maps are equal, the test prints how many maps and how many objects of each list it has compared. The test stops
+at the first difference, or if crushtool is missing, fails or crashes. The status is then 1.
 """
 
 import collections
@@ -28,13 +41,13 @@ from against_crushtool import Crashed, Crushtool, Failed, in_decimals, random_ma
 from documents import SERVED, with_classes, with_rules
 
 TYPE = "type 0 osd\n"
-# Steps that crushtool tells as `opcode`, `arg1` and `arg2`, by their numbers.
+# The steps that crushtool prints with the members `opcode`, `arg1` and `arg2`. The key is the value of `opcode`.
 NUMBERED = {10: "set_choose_local_tries", 11: "set_choose_local_fallback_tries", 12: "set_chooseleaf_vary_r", 13: "set_chooseleaf_stable"}
 COMPARED = ["devices", "types", "buckets", "rules"]
 
 
 def built(dice, crushtool):
-    """The text of a map that crushtool builds, with other weights."""
+    """Returns the text of a map that `crushtool --build` makes. Up to five of its devices get random weights."""
     layers = [word for kind in ("host", "rack", "row")[: dice.randint(1, 3)]
               for word in (kind, dice.choice(["straw2", "straw", "list"]), str(dice.randint(2, 5)))]
     count, file = dice.randint(1, 40), crushtool.file("built")
@@ -45,19 +58,21 @@ def built(dice, crushtool):
 
 
 def drawn(dice):
-    """The text of a map of chance."""
+    """Returns the text of a random map with device classes, rules and tunables."""
     map = with_classes(dice, random_map(dice, in_decimals))
     classes = sorted({item["class"] for item in map.items.values() if "class" in item})
     return with_tunables(with_rules(dice, map, classes, list(SERVED)).text())
 
 
 def told(step):
-    """A step of crushtool's, as it is told by its name."""
+    """Returns a step of crushtool's dump, with the step's name in place of its number."""
     return {"op": NUMBERED[step["opcode"]], "num": step["arg1"]} if "opcode" in step else step
 
 
 def without_what_is_added(dumped, ours):
-    """What crushtool told but for what it tells beside the map; whatever else is added stays."""
+    """Returns the four lists of crushtool's dump without the things that only crushtool may print.
+
+    Everything else that only crushtool prints stays in the lists, so the comparison finds it."""
     numbers = {device["id"] for device in ours["devices"]}
     unused = [{"id": number, "name": f"device{number}"} for number in range(max(numbers, default=-1)) if number not in numbers]
     undeclared = [{"type_id": 0, "name": "device"}] if all(kind["type_id"] for kind in ours["types"]) else []
@@ -68,17 +83,19 @@ def without_what_is_added(dumped, ours):
 
 
 def class_buckets(text):
-    """The ids and names of buckets of classes, by the text of a map."""
+    """Yields the id and the name of each bucket of a class tree, for the class ids in the text of a map."""
     for name, block in re.findall(r"(?ms)^\S+ (\S+) \{\n(\tid .*?)^\}", text):
         yield from ((int(number), f"{name}~{kind}") for number, kind in re.findall(r"id (-\d+) class (\S+)", block))
 
 
 def compare(program, crushtool, text, is_untyped, counts):
-    """What differs between the dump of a map and its document, or nothing."""
+    """Returns a text that shows the first difference between the dump and the document of a map, or None.
+
+    If is_untyped is true, the line of type 0 is removed from the map, unless a rule needs this type."""
     is_untyped = is_untyped and TYPE in text and " type osd\n" not in text
     counts["without type 0"] += is_untyped
     crushtool.compiled(text.replace(TYPE, "") if is_untyped else text, "map")
-    # It prints a type 0 that isn't declared.
+    # crushtool also prints the line of type 0 if the compiled text has no such line.
     printed = crushtool.text("map").replace(TYPE, "") if is_untyped else crushtool.text("map")
     dumped = json.loads(run([crushtool.program, "-i", crushtool.file("map"), "--dump", "--format", "json"]))
     ours = json.loads(run([program, "--json"], printed))["map"]
@@ -98,7 +115,7 @@ def is_refused(program, text):
 
 
 def texts(crushtool, program, maps, seed, files):
-    """The name and the text of each map."""
+    """Yields the name and the text of each map. Prints the name of each file whose map crushedit refuses."""
     for index in range(maps):
         dice = random.Random(f"{seed} {index}")
         yield f"map {index} of seed {seed}", built(dice, crushtool) if index % 2 else drawn(dice)

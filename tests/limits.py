@@ -3,20 +3,24 @@
     python3 tests/limits.py crates/crushedit/out/crushedit [--space FROM TO STEP] [--stack FROM TO STEP]
     python3 tests/limits.py crates/crushedit/out/crushedit --fits 1024
 
-The numbers are kB, as `ulimit -v` and `ulimit -s` take them. A run may end with status 0 and the whole output, with
-another status and its line on standard error, by a signal, or in the loader (status 127) before the program begins. The
-script prints one line for each range of limits within which a job ends alike, and how many bytes a run wrote that did not
-end with status 0.
+The script starts crushedit with the limits FROM, FROM + STEP, and so on, up to TO. `--space` is for the address space,
+and `--stack` is for the stack. The numbers are in kB (1,024 bytes), as `ulimit -v` and `ulimit -s` take them. A run
+can end with status 0, with another status and a line on standard error, by a signal, or in the loader (status 127)
+before the program begins. For each job, the script prints one line for each range of limits in which the runs end in
+the same way. If such a run doesn't end with status 0, the line also says how many bytes the run has written. The
+status of the script is then 0, however the runs end. The runs have three parts:
 
-1. With both limits: the example map with an edit, a nest of 4,096 buckets with an edit of the device in the innermost
-   one, and the maps of two operators, each at once and with --in-turn.
-2. With little stack: each kind of edit at the foot of such a nest, whose innermost bucket holds two, and batches that
-   are rolled back. `--edits` runs these alone.
-3. With little stack: the forms of output that look at the whole nest, or compare it with another map. `--forms` runs
-   these alone.
+1. Jobs with little address space, and the same jobs with little stack. The first job edits a map of three devices. The
+   second job edits the device in the innermost of 4,096 nested buckets. The third job has two operators. Each job runs
+   with and without `--in-turn`. `--jobs` selects some of these jobs.
+2. Edits at the bottom of 4,094 nested buckets, with little stack. The innermost of these buckets holds two more
+   buckets. There are edits of all kinds except for `add-bucket`, `set-device-class` and `rm-device-class`. There are
+   also three batches, of which crushedit rolls back two. `--edits` runs only this part.
+3. Outputs for which crushedit visits all nested buckets, or compares them with another map, with little stack.
+   `--forms` runs only this part.
 
-With `--fits KB`, as in the gate, the script only looks whether each edit of part 2 succeeds with so much stack, and ends
-with status 1 if one doesn't.
+With `--fits KB`, as in the gate, the script only checks the edits of part 2, with a stack of KB kB. The script then
+ends with status 1 if any of these runs doesn't end with status 0, or prints something on standard error.
 """
 
 import argparse
@@ -44,7 +48,7 @@ EDITS = [
     "begin\nmove osd.0 rack=right\nadd osd.2 1.0 rack=left\nrm left\ncommit",
 ]
 
-# Forms of output that walk through a whole nest; OTHER is the map that they compare with.
+# Options for outputs that visit all nested buckets. Some of them compare the map with the map in the file OTHER.
 OTHER = "other"
 FORMS = [
     ["--tree"], ["--tree", "--under", "b1"], ["--tree", "--down-to", "rack"], ["--since", OTHER], ["--tree", "--since", OTHER],
@@ -53,7 +57,9 @@ FORMS = [
 
 
 def fork():
-    """Buckets in one another, as many as there may be, the innermost of which holds two with a device each."""
+    """Returns the lines of a map with nested buckets, and with as many buckets as a map may have.
+
+    The innermost of the nested buckets holds the buckets `left` and `right`. Each of these two holds one device."""
     lines = ["device 0 osd.0", "device 1 osd.1", *TYPES]
     lines += bucket("rack", "left", MOST_BUCKETS, [("osd.0", 1)])
     lines += bucket("rack", "right", MOST_BUCKETS - 1, [("osd.1", 1)])
@@ -65,7 +71,9 @@ def fork():
 
 
 def ending(words, job, kind, limit):
-    """How a run of these words ends under a limit, in the folder of the job."""
+    """Returns how a run with these words ends under a limit (in kB). The run starts in the folder of the job.
+
+    kind is the kind of the limit, such as RLIMIT_STACK."""
     def limited():
         resource.setrlimit(kind, (limit * 1024, limit * 1024))
 
@@ -85,7 +93,8 @@ def ending(words, job, kind, limit):
 
 
 def ranges(endings):
-    """Neighbours that end alike as one."""
+    """Yields the ranges of limits with the same ending: the first limit, the last limit and the ending of each
+    range."""
     begin = last = shown = None
     for limit, how in endings:
         if how != shown:
@@ -98,12 +107,14 @@ def ranges(endings):
 
 
 def edits_at_the_foot():
-    """The name of each kind of edit, and the job that makes it at the foot of a nest."""
+    """Returns the name of each edit or batch of EDITS, and the job that makes it below the nested buckets."""
     return [(edit.replace("\n", "; "), "\n".join([*fork(), OPERATOR, edit]) + "\n") for edit in EDITS]
 
 
 def misfits(program, folder, stack):
-    """The jobs that don't end well with so much stack, each at once and in turn."""
+    """Yields a line for each run of an edit that doesn't end with status 0 and an empty standard error.
+
+    stack is the stack of the runs in kB. Each edit has one run with and one run without `--in-turn`."""
     job = os.path.join(folder, "job")
     for name, text in edits_at_the_foot():
         with open(job, "w") as out:
@@ -115,7 +126,10 @@ def misfits(program, folder, stack):
 
 
 def endings_of(program, folder, name, text, forms, kinds):
-    """The lines to print of a job: how it ends in each of the forms, under limits of each of these kinds."""
+    """Yields the lines to print for a job: how its runs end with each of the forms, under each kind of limit.
+
+    forms are lists of options. For each kind of limit, kinds has its name in the output, its number for `setrlimit`,
+    and the first limit, the last limit and the step."""
     job = os.path.join(folder, "job")
     with open(job, "w") as out:
         out.write(text)
