@@ -1,5 +1,14 @@
-"""What is printed in the place of a map, by the plain model: trees, what has changed since a map, Ceph's commands;
-and how a strict run ends."""
+"""Computes what a run prints, and how the run ends: a part of the plain model.
+
+The plain model is a second implementation of crushedit, in Python, with which tests compare the program. This module
+computes the outputs that take the place of the map's text: the tree (`--tree`), what has changed since another map
+(`--since`), and Ceph's own commands (`--as-ceph`). It also computes the status and standard error of a run, for
+example with `--strict` or `--no-make`.
+
+- A *call* is a batch, or a command that is in no batch. Its *history line* shows the call and the reply to the call.
+- The parameter *made* of many functions is the list of the calls of a run, in the order in which they were made. For
+  each call, the list has the call and its history line.
+"""
 
 import re
 
@@ -40,14 +49,17 @@ def parent_id(map, name):
 
 
 def whole(map, name):
-    """What is told of an item that only one of two maps has."""
+    """Returns what is printed about an item that only one of two maps has."""
     kind = map.items[name].get("class")
     return (f"{type_name(map, name)} in {place_of(map, name)}, weight {text_of(map.weight(name))}"
             + (f", class {kind}" if kind else ""))
 
 
 def differences(old, was, new, name):
-    """The parts of the line of an item that both maps have, each with its heading in the last line, if it has one."""
+    """Yields the parts of the line of an item that both maps have, each with the name of the count that counts it.
+
+    The counts are in the last line of the output, for example `moved`. If no count counts a part, the part has None in
+    place of the name. was is the item's name in the old map, and name is the item's name in the new map."""
     one, other = old.items[was], new.items[name]
     if was != name:
         yield "renamed", f"was {was}"
@@ -70,14 +82,19 @@ def total(map):
 
 
 def weight_as(map, number, kind):
-    """What the devices below the bucket of an id weigh, of a class where there is one."""
+    """Returns the total weight of the devices below the bucket with this id, or 0 if the map has no such bucket.
+
+    If kind is the name of a class, only the devices of this class count. If kind is None, all devices count."""
     name = map.with_id(number)
     below = map.below(name) if name else []
     return sum(map.items[n]["weight"] for n in below if map.is_device(n) and kind in (None, map.items[n].get("class")))
 
 
 def emptied(old, new):
-    """The lines of the new map's rules that take what weighed something and weighs nothing now."""
+    """Yields a line for each step with which a rule of the new map takes a bucket that weighs nothing any more.
+
+    The bucket with the same id weighed more than 0 in the old map, and weighs 0 in the new map. If the step names a
+    class, only the devices of this class count."""
     for rule in new.rules:
         for step, number in rule["lines"]:
             if number is not None:
@@ -88,7 +105,10 @@ def emptied(old, new):
 
 
 def changed_rules(old, new):
-    """The lines of the rules that differ, by what each map says of its rules: their names with all else."""
+    """Returns the lines about the rules that differ.
+
+    old and new are the rules of the two maps. Each rule is a pair: its name, and everything else that the map says
+    about the rule."""
     if old == new:
         return []
     before, after = dict(old), dict(new)
@@ -98,7 +118,7 @@ def changed_rules(old, new):
 
 
 def class_weights(map):
-    """What the devices of each class weigh, of the classes that a device has."""
+    """Returns the total weight of the devices of each class, for the classes that at least one device has."""
     weights = {}
     for name, item in map.items.items():
         if map.is_device(name) and item.get("class"):
@@ -112,7 +132,9 @@ def classes_taken(map):
 
 
 def class_lines(old, new):
-    """The lines of the classes that weigh another sum, and of those that are new though no rule takes them."""
+    """Yields a line for each class whose devices have another total weight than in the old map.
+
+    Then it yields a line for each class that only the new map has and that no rule of the new map takes."""
     was, now = class_weights(old), class_weights(new)
     for kind in sorted({*was, *now}):
         if was.get(kind, 0) != now.get(kind, 0):
@@ -154,15 +176,17 @@ def since_text(old, new):
 
 
 def ceph_text(map, made):
-    """Of calls that were made, the first on this map, each with its history line: Ceph's commands for the edits of those
-    that changed it."""
+    """Returns Ceph's own commands for all commands of the calls that changed the map.
+
+    map is the map before the first of the calls in made."""
     edits = [words for (_, edits), line in made if is_change(line) for words in edits]
     return "".join(line + "\n" for line in ceph_lines(map, edits))
 
 
 def body(words, since, read, map, made):
-    """What is printed before the history, by the words of the command line; `since` is the map of `--since`, `read` that
-    before the calls."""
+    """Returns what a run prints before the history, if its command line has these words.
+
+    since is the map of `--since`, read is the map before the calls, and map is the map after the calls."""
     if "--tree" in words:
         return tree_text(map)
     if "--since" in words:
@@ -171,7 +195,10 @@ def body(words, since, read, map, made):
 
 
 def run_in_turn(map, scripts):
-    """The map after the calls of each operator, behind those of the one before, and each call with its line."""
+    """Makes the calls of the scripts, one script after the other.
+
+    Returns the map after all calls, and the list of the calls, each with its history line. scripts has the operator
+    and the calls of each script."""
     made, changes = [], 0
     for operator, calls in scripts:
         for call in calls:
@@ -186,22 +213,32 @@ def is_refusal(line):
 
 
 def reasons(words, read, made, adjusted, text, files):
-    """What standard error is told below its one line, by the words of the command line: of calls that were made, the
-    first on this map, what was refused, and of the text of these files and the weights of it that were replaced."""
+    """Returns what a run prints on standard error after the first line, if its command line has these words.
+
+    With `--explain`, it is the refused calls with their reasons, and the lines about the map's text. With only
+    `--strict`, it is the history lines of the refused calls. read is the map before the first call of made. adjusted
+    has the weights of the map's text that crushedit has replaced. text is the text of the job, and files are the files
+    of the job, as `own_line` in explained.py takes them."""
     if "--explain" in words:
         return refused_text(read, made, text, files) + written_text(adjusted, text)
     return "".join(line for _, line in made if is_refusal(line)) if "--strict" in words else ""
 
 
 def first_line(status, refused, adjusted):
-    """The one line of a run of this status, 0 or 5, or nothing."""
+    """Returns the first line on standard error of a run with the status 0 or 5.
+
+    A run with the status 0 prints such a line only if it has replaced weights. refused has the refused calls, and
+    adjusted has the replaced weights."""
     if status == 5:
         return f"crushedit: refused {len(refused)}\n"
     return f"crushedit: adjusted {len(adjusted)}\n" if adjusted else ""
 
 
 def created_notes(words, read, made):
-    """What standard error is told of calls, the first on this map, that created buckets unasked, if none may."""
+    """Returns what `--no-make` prints on standard error about calls that created more buckets than they may.
+
+    These are the calls that created more buckets than they have commands `add-bucket`. Without `--no-make`, and if
+    there is no such call, the result is "". read is the map before the first call of made."""
     count = sum(makes_more(call, line) for call, line in made)
     if "--no-make" not in words or count == 0:
         return ""
@@ -209,7 +246,10 @@ def created_notes(words, read, made):
 
 
 def ending(words, since, read, adjusted, scripts, text, files):
-    """Status, standard output and standard error of a run in turn. `adjusted` are the weights of the text that were replaced."""
+    """Returns the status, the standard output and the standard error of a run whose scripts run one after the other.
+
+    since is the map of `--since`, and read is the map before the scripts. adjusted has the weights of the map's text
+    that crushedit has replaced. text and files are the job, as `reasons` takes them."""
     map, made = run_in_turn(read, scripts)
     refused = [line for _, line in made if is_refusal(line)]
     told = reasons(words, read, made, adjusted, text, files)
@@ -223,6 +263,6 @@ def ending(words, since, read, adjusted, scripts, text, files):
 
 
 def history_of(printed, count):
-    """What is printed, taken apart before its last lines, one for each call."""
+    """Splits the output of a run with so many calls: returns what is before the history, and the history lines."""
     lines = printed.splitlines(keepends=True)
     return "".join(lines[: len(lines) - count]), [re.sub(r"\n$", "", line) for line in lines[len(lines) - count :]]
