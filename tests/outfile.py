@@ -1,10 +1,19 @@
-"""Runs crushedit with `-o FILE`, and looks whether FILE has its old bytes or all the new ones, whatever goes wrong.
+"""Runs crushedit with `-o FILE`, and checks that FILE always has either its old bytes or all of its new bytes.
 
     python3 tests/outfile.py PROGRAM [SEED]
 
-Root runs the trials in a mount namespace of their own, where a small disk and a device are mounted, and the program as a
-user without rights. Where nobody may mount these two, their trials are left out. No trial names a device of the machine. The runs that are killed end after random times, which SEED fixes, as far as times can be.
-Prints a line for each trial that ends otherwise, then how many trials there were; ends with status 1 if any did.
+In some of the runs, something goes wrong: for example, the disk is full, the user may not write to the folder of FILE,
+or the run is killed. In most trials, the test also checks that crushedit leaves no other file in this folder.
+
+If root starts the test, then crushedit runs as a user without rights. The test itself runs in a mount namespace of its
+own, in which it mounts a small disk, and creates two devices like /dev/null and /dev/full. If the user isn't root or
+may not mount anything, the test leaves out the trials of these devices and of the small disk, and says so in its last
+line. No trial gives crushedit a device of the machine as FILE.
+
+Some runs are killed after random times. The same SEED gives the same random numbers, but the times also depend on the
+speed of the machine. Without a SEED, the random numbers differ each time. The test prints a line for each comparison
+that fails. The last line has the numbers of all comparisons and of the failed comparisons. If a comparison has failed,
+the status is 1.
 """
 
 import os
@@ -30,7 +39,7 @@ OLD = b"the old bytes\n"
 
 
 class Trials:
-    """The trials, in a folder with the maps `small` and `large` that the user of the program can read."""
+    """The trials, in a folder with the maps `small` and `large`, which the user who runs crushedit may read."""
 
     def __init__(self, program, folder, chance, mounts):
         self.is_root = os.geteuid() == 0
@@ -52,7 +61,7 @@ class Trials:
         return subprocess.run(self.words(self.folder / name), capture_output=True, check=True).stdout
 
     def ended(self, *words):
-        """The status of a run, and what it wrote to standard error. It must write nothing to standard output."""
+        """Returns the status and the standard error of a run. The run must write nothing to standard output."""
         run = subprocess.run(self.words(*words), capture_output=True, timeout=120)
         self.expect(run.stdout, b"", f"the output of {words}")
         return run.returncode, run.stderr.decode()
@@ -64,7 +73,7 @@ class Trials:
             print(f"{what}: {came!r:.300} in place of {wanted!r:.300}")
 
     def room(self, name):
-        """A folder in which the program may write."""
+        """Creates a folder in which crushedit may write, and returns its path."""
         place = self.folder / name
         place.mkdir()
         self.give(place)
@@ -213,7 +222,7 @@ class Trials:
 
 
 def can_mount():
-    """Whether this user may mount something in a mount namespace of its own."""
+    """Returns whether the user is root, and may mount a file system in a new mount namespace."""
     if os.geteuid() != 0:
         return False
     with tempfile.TemporaryDirectory() as folder:

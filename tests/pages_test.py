@@ -1,17 +1,34 @@
 #!/usr/bin/env python3
-"""Runs what the pages show, and compares what comes with what stands there.
+"""Runs the examples of the pages, compares their output with the pages, and checks some statements of the pages.
 
     python3 tests/pages_test.py crates/crushedit/out/crushedit
 
-Each console block of the pages of PAGES is run in a folder of its own, in which map.txt is the page's map, and examples/
-is that of the repository: the lines after `$ ` are the commands, and the lines below each are what it has to print. A
-block of bash that is followed by "It prints:" and a block of text is run in the same way. A line of two dots, perhaps
-with words after them, stands for any lines. A block of Python, whose first line is a comment with its name, is a file of
-that name there. Blocks that call `make` aren't run. README's table of statuses has the line of each command of ENDS in
-the row of its status. Then it is looked whether README's script makes its map of what it has shown the changes of,
-maps that `crushtool` printed differ at most by the order of their buckets when they are printed here, `make try` shows
-what changes, bash completes what is typed (completed.py), and each link of the archive's pages leads to a file of the archive. Prints a line for each block and each of these, and
-ends with status 1 where one prints something else, or isn't so.
+The pages are those of PAGES. These are the rules for their examples:
+
+- A console block is an example. In this block, a line that begins with `$ ` has a command, and the lines after the
+  command are the output that the command must print. Console blocks that call `make` don't run.
+- A bash block is also an example, if the line "It prints:" and a text block with the output follow after it.
+- In an output, a line of two dots stands for any lines. Words may follow after the two dots and a space.
+- Each example runs in a new folder. There, map.txt is the map of the page, and examples/ leads to the folder examples/
+  of the repository.
+- If the first line of a Python block is a comment with a file name, the folders of the page's examples have a file of
+  this name. This file has the other lines of the block.
+
+Then the test checks these statements:
+
+- The commands of ENDS end with the right statuses. README's table of statuses has the first line that each of these
+  commands prints on standard error.
+- If crushedit reads a map that `crushtool` has printed, and prints this map again, only the order of the buckets may
+  differ.
+- bash completes command lines of crushedit as it should (completed.py).
+- In the archive of packaging/dist.sh, each link of a page leads to a file of the archive. There are exceptions: links
+  to web pages, and links to the sources of the crates.
+- README's script shows what its scripts change, and then makes the new map with the same scripts.
+- Each page links the map of its examples.
+- `make try` prints what has changed, and not the whole map.
+
+The test needs bash and make. It prints a line for each example and each check. If an example prints something else, or
+a check fails, the test prints what is wrong, and the status is 1.
 """
 import os
 import pathlib
@@ -26,11 +43,12 @@ from completed import completion_faults
 
 TOP = pathlib.Path(__file__).resolve().parent.parent
 FIRST_MAP, SMALL_MAP = "examples/map.txt", "examples/example.txt"
-# The map of each page's examples, which the page links.
+# The pages, and the map that the examples of each page use.
 PAGES = {"README.md": FIRST_MAP, "docs/user/OPERATING.md": FIRST_MAP, "docs/user/FORMATS.md": SMALL_MAP}
 MAPS = TOP / "examples/maps"
-# How runs end, with the status and the line on standard error that README's table has. Of status 4, which takes a system
-# that refuses memory or threads, tests/refused_memory.py looks at the lines.
+# Commands, each with the status with which it must end. README's table must have the line that the command prints on
+# standard error. A run ends with status 4 only if the system refuses memory or a thread. tests/refused_memory.py tests
+# such runs.
 ENDS = [
     (0, "crushedit old.txt"),
     (1, "(cat map.txt; echo '%operator a'; echo fly osd.1) | crushedit"),
@@ -52,17 +70,18 @@ UNTRIED = {"4"}
 
 
 def steps_of(block):
-    """The commands of a block, each with what it has to print."""
+    """Yields the commands of a console block, each with the output that it must print."""
     for step in re.split(r"(?m)^\$ ", block)[1:]:
         lines = step.splitlines(keepends=True)
-        # A command goes on after a backslash, and up to the END of a text that it has behind it.
+        # If a line of a command ends with a backslash, the command continues on the next line. If the first line has
+        # <<'END', the command continues up to the line END.
         last = (lambda line: line == "END\n") if "<<'END'" in lines[0] else (lambda line: not line.endswith("\\\n"))
         count = next(number for number, line in enumerate(lines, 1) if last(line))
         yield "".join(lines[:count]), "".join(lines[count:])
 
 
 def examples_of(text):
-    """The examples of a page, in its order: each a list of commands, each with what it has to print."""
+    """Yields the examples of a page in their order. An example is a list of commands, each with its output."""
     console, typed = r"^```console\n(?P<console>.*?)^```$", r"^```bash\n(?P<bash>.*?)^```\n\nIt prints:\n\n```text\n(?P<text>.*?)^```$"
     for block in re.finditer(rf"(?ms){console}|{typed}", text):
         if "$ make " not in (block["console"] or ""):
@@ -70,7 +89,7 @@ def examples_of(text):
 
 
 def scripts_of(text):
-    """The names and texts of the blocks of Python of a page."""
+    """Returns the file names and the texts of the Python blocks of a page."""
     return re.findall(r"(?ms)^```python\n# (\S+)\n(.*?)^```$", text)
 
 
@@ -80,7 +99,10 @@ def is_shown(printed, shown):
 
 
 def run_in(here, command, environment, stdout=None):
-    """What a command of bash prints in this folder, as it ends."""
+    """Runs a command of bash in this folder, and returns its status and its output as a `CompletedProcess`.
+
+    If stdout is given, standard output goes there, and the `stderr` of the result has standard error. Otherwise the
+    `stdout` of the result has standard output and standard error together."""
     return subprocess.run(["bash", "-c", command], cwd=here, env=environment, text=True,
                           stdout=stdout or subprocess.PIPE, stderr=subprocess.PIPE if stdout else subprocess.STDOUT)
 
@@ -94,7 +116,11 @@ def example_folder(folder, name):
 
 
 def has_line(cell, line):
-    """Whether a cell of README's table has this line: as it is, or without the word that asks for another map."""
+    """Returns whether a cell of README's table of statuses has a line that is printed on standard error.
+
+    The cell has forms of lines in backquotes. In a form, NAME stands for any word, and L, P and N stand for numbers.
+    If a form ends with `: `, any words may follow. If the cell has the form `since: ` or `to: `, then the line may
+    also have this word after `crushedit: `."""
     forms = re.findall(r"`([^`]+)`", cell)
     for word in ("since: ", "to: "):
         line = line.replace(f"crushedit: {word}", "crushedit: ") if word in forms else line
@@ -109,7 +135,10 @@ def has_line(cell, line):
 
 
 def status_faults(folder, environment):
-    """Which lines and statuses README's table doesn't tell, and which of its rows nothing here ends by."""
+    """Yields what is wrong with the statuses of the commands of ENDS.
+
+    A command may end with another status, or README's table may not have the command's line in the row of this status.
+    Or the table has a status with which no command of ENDS ends, and which isn't in UNTRIED."""
     here, rows = example_folder(folder, "ends"), {}
     for status, cell in re.findall(r"(?m)^\| (\d) \|.*\| (.*) \|$", (TOP / "README.md").read_text()):
         rows[status] = rows.get(status, "") + (rows[cell[-1]] if cell.startswith("as with ") else cell)
@@ -123,7 +152,10 @@ def status_faults(folder, environment):
 
 
 def order_faults(folder, environment):
-    """Which maps that `crushtool` printed are printed here otherwise than in another order of their buckets."""
+    """Yields each map of `crushtool` that crushedit prints with another difference than the order of its buckets.
+
+    A map doesn't count if crushedit prints something on standard error for it. It is also a fault if crushedit prints
+    none of the maps with another order of the buckets."""
     here, orders = example_folder(folder, "order"), 0
     for job in sorted(MAPS.glob("*.job")):
         text = job.read_text().partition("%")[0]
@@ -140,25 +172,27 @@ def order_faults(folder, environment):
 
 
 def shown_is_made(_program, _folder):
-    """README's script shows what the same map and commands change from which it then makes the new map."""
+    """Returns whether README's script makes the new map from the same files whose changes it has shown before."""
     script = re.search(r"(?ms)^```sh\n(.*?)^```$", (TOP / "README.md").read_text())[1]
     runs = re.findall(r"(?m)^crushedit apply (--dry-run|-o new\.txt) (.*?) *#", script)
     return [how for how, _ in runs] == ["--dry-run", "-o new.txt"] and runs[0][1] == runs[1][1]
 
 
 def maps_are_linked(_program, _folder):
-    """The examples of each page are run with a file that the page links."""
+    """Returns whether each page links the file with the map of its examples."""
     return all(f"]({'../' * page.count('/')}{map_file})" in (TOP / page).read_text() for page, map_file in PAGES.items())
 
 
 def tried_is_short(_program, _folder):
-    """What `make try` runs, whose own map would be 110 lines."""
+    """Returns whether `make try` runs crushedit with `--since`, so that it doesn't print the whole map."""
     ran = subprocess.run(["make", "-n", "try"], cwd=TOP, capture_output=True, text=True)
     return " --since map " in ran.stdout
 
 
 def archive_faults(program, folder):
-    """What the archive lacks: the completion, and files to which links of its pages lead. It has no sources of crates."""
+    """Yields which files the archive lacks: the completion for bash, two pages, and files to which its pages link.
+
+    Links to the sources of the crates don't count, because the archive doesn't have these sources."""
     ran = subprocess.run([TOP / "packaging/dist.sh", program, folder], capture_output=True, text=True, check=True)
     with tarfile.open(ran.stdout.split()[0]) as archive:
         names = set(archive.getnames())
