@@ -1,23 +1,36 @@
-"""Parts of trees, of what has changed and of plans, and what has changed by names, on jobs of chance beside a plain model.
+"""Checks with the plain model what crushedit prints for parts of random maps, and for comparisons by names.
 
     python3 tests/parts.py crates/crushedit/out/crushedit [JOBS [SEED]]
 
-Of the map after the scripts of a job, in turn, and of another map, the same after a random script or one that has nothing
-in common but names, it is looked whether
+The plain model is a second implementation of crushedit, in Python. A *part* of a map is an item with everything below
+the item (`--under`), or what is left if everything below the buckets of a type is left out (`--down-to`). A comparison
+by names compares two maps by the names of their items (`--by-name`). There are JOBS jobs (1000 if JOBS isn't given).
+The SEED may be any word. Without a SEED, the test draws a random seed. The test prints the seed.
 
-- `--tree --under NAME --down-to TYPE`, with either word or both, is the tree of the model cut so, with the weights of the whole
-- `--tree --class CLASS`, with and without those words, has of the same items those that are a device of the class or have one
-  below them, with the weights of these devices
-- `--since MAP --under NAME` has of the model's lines those of items that stand below NAME, or stood below the item of its id
-- `--since MAP --by-name`, with `--under NAME` and without, has the lines of docs/dev/names.md, which this page has too (`changed_lines`)
-- `--to MAP --under NAME`, by ids and by names, has only commands of items of the part: each item that a command names stood
-  there in the map, or has behind it a name that stands there in MAP. The model makes the commands, each has to change its map,
-  and what is told to stay is of the model's lines those of the part. With commands fewer stay than without. No command
-  creates a bucket outside of the part. A second run prints the same, and with `--strict`, of the map alone, what stays ends it
+Each job has a map and scripts, which run one after the other. The map after the scripts is compared with a second map,
+which is in the file MAP. For three of every four jobs, the second map is the job's map after another random script.
+For the fourth job, it is an independent random map, with names from the same short list. The test checks these
+outputs:
 
-Each is run with `--exit-code`: the status is 6 where something is told, of trees where the scripts changed the map, and else 0.
-A NAME, TYPE or CLASS that isn't there ends by `no item`, `no type` or `no class`, which is counted as missing. The status is 1 where anything
-is otherwise. The seed may be any word; without one it is drawn.
+- `--tree` with `--under NAME` or `--down-to TYPE` or both: the output must be the model's tree of the same part. The
+  weights must be those of the whole tree.
+- The same with `--class CLASS`: the tree must have only the devices of the class, and the items that have such a
+  device below them. The weight of an item must be the sum of the weights of these devices.
+- `--since MAP --under NAME`: the output must have the model's lines about certain items. These are the items of the
+  part below NAME in the new map, and the items of the part in the old map. In the old map, the part begins with the
+  item that has the id of NAME.
+- `--since MAP --by-name`, with and without `--under NAME`: the output must have the lines that docs/dev/names.md
+  describes. This script computes these lines (`changed_lines`).
+- `--to MAP --under NAME`, with and without `--by-name`: `check_plan` says what the plan must be like.
+
+All runs have the option `--exit-code`. If a run has no `--strict`, the status must be 6 if the output has a difference
+or a command, and otherwise
+0. For a tree, the status must be 6 if the scripts have changed the map. If the map doesn't have the NAME, TYPE or
+   CLASS, the run must end with status 1 and `no item`, `no type` or `no class`. The test counts such a run as
+   `missing`.
+
+The test prints each job for which something is wrong. Its last line has the number of these jobs, and the numbers of
+the compared outputs. If a job is wrong, the status is 1.
 """
 
 import collections
@@ -38,13 +51,15 @@ from plans import after_script, any_map, expect, with_settings
 from reading import read_job, read_map
 
 HISTORY = "--no-history"
-# How many parts of trees of a job are printed.
+# The number of parts for which the test compares the trees of a job.
 TREES = 4
 NOWHERE = "nowhere"
 
 
 class Cut(Map):
-    """Items of a map, which weigh what they weigh there."""
+    """A part of a map, whose items have the weights that they have in the whole map.
+
+    names are the names of the items in the part. For the items in closed, the part has nothing below them."""
 
     def __init__(self, map, names, closed):
         super().__init__(map.types)
@@ -56,7 +71,10 @@ class Cut(Map):
 
 
 def cut(map, under, kind):
-    """The map without what isn't below the item of a name, and without what is below buckets of a type, where either is given."""
+    """Returns the part of a map that `--under` and `--down-to` select.
+
+    under is the name for `--under`, and kind is the type for `--down-to`. Each of them is None if its option isn't
+    given."""
     closed = {name for name in map.items if not map.is_device(name) and map.types[map.items[name]["kind"]] == kind}
 
     def names_below(name):
@@ -67,7 +85,9 @@ def cut(map, under, kind):
 
 
 class OfClass(Map):
-    """Those items of a cut map that are a device of a class or have one below them in the whole map, and what these weigh."""
+    """The items of a part that are devices of a class, or that have such devices below them in the whole map.
+
+    The weight of an item is the sum of the weights of these devices."""
 
     def __init__(self, part, of_class):
         super().__init__(part.types)
@@ -80,12 +100,12 @@ class OfClass(Map):
 
 
 def devices_of(map, name, of_class):
-    """The devices of a class that are an item or below it."""
+    """Returns those devices of a class that are the item itself or below it."""
     return [own for own in [name, *map.below(name)] if map.items[own].get("class") == of_class]
 
 
 def names_at(map, name):
-    """The names of an item and of all below it, none where the map hasn't it."""
+    """Returns the names of an item and of all items below it. If the map doesn't have the item, there are none."""
     return {name, *map.below(name)} if name in map.items else set()
 
 
@@ -94,19 +114,24 @@ def ids_at(map, name):
 
 
 def part_ids(old, new, under):
-    """The ids of the items of a part: the item has the name in the new map, and in the old one its id."""
+    """Returns the ids of all items that are in a part in the new map, in the old map, or in both.
+
+    In the new map, the part begins with the item of the name `under`. In the old map, it begins with the item of the
+    same id."""
     return ids_at(new, under) | ids_at(old, old.with_id(new.items[under]["id"]))
 
 
 def since_part(old, new, under):
-    """The lines of what has changed of a part."""
+    """Returns the lines about what has changed, for the items of a part."""
     own = part_ids(old, new, under)
     names = {f"{(new if number in by_id(new) else old).with_id(number)} ({number}):" for number in own}
     return "".join(line for line in since_text(old, new).splitlines(keepends=True) if " ".join(line.split(" ", 2)[:2]) in names)
 
 
 def is_there(map, other, name):
-    """Whether the other map has this item of the map by its name: both are buckets, or both are devices."""
+    """Returns whether the other map has the counterpart of an item of the map.
+
+    The counterpart has the same name. Either both are buckets, or both are devices."""
     return name in other.items and map.is_device(name) == other.is_device(name)
 
 
@@ -116,7 +141,10 @@ def told_whole(map, name):
 
 
 def changes(old, new, name):
-    """The parts of the line of an item that both have, each with its heading in the last line, if it has one."""
+    """Yields the parts of the line of an item that both maps have, each with the name of the count that counts it.
+
+    The counts are in the last line of the output, for example `moved`. If no count counts a part, the part has None in
+    place of the name."""
     one, other = old.items[name], new.items[name]
     if not new.is_device(name) and type_name(old, name) != type_name(new, name):
         yield None, f"type {type_name(old, name)} to {type_name(new, name)}"
@@ -131,7 +159,9 @@ def changes(old, new, name):
 
 
 def changed_lines(old, new, under):
-    """What has changed by names: the lines of items, of all or of a part, and how many differ in which way."""
+    """Returns the lines about the items that differ in a comparison by names, and the counts of the differences.
+
+    If under is a name, only the items of its part have lines. The counts are always about all items."""
     counts = dict.fromkeys(["made", "removed", "renamed", "moved", "of other weight", "of other class"], 0)
     lines, was, own = [], names_at(old, under), names_at(new, under)
     for _, name in tree_rows(new):
@@ -151,8 +181,10 @@ def changed_lines(old, new, under):
 
 
 def emptied_by_name(old, new):
-    """The lines of the new map's rules that take a bucket which the old map has by its name, and which weighed something
-    there and weighs nothing now."""
+    """Yields a line for each step with which a rule of the new map takes a bucket that weighs nothing any more.
+
+    The bucket of the same name weighed more than 0 in the old map, and weighs 0 in the new map. If the step names a
+    class, only the devices of this class count."""
     for rule in new.rules:
         for step, number in rule["lines"]:
             taken = number is not None and new.with_id(number)
@@ -163,7 +195,7 @@ def emptied_by_name(old, new):
 
 
 def since_by_name(old, new, under):
-    """The text of what has changed by names, and whether any of it tells of a difference."""
+    """Returns the text about what differs in a comparison by names, and whether it has a line about a difference."""
     lines, counts = changed_lines(old, new, under)
     if under is None:
         lines += ["tunables differ"] * (list(old.tunables) != list(new.tunables)) + ["types differ"] * (old.types != new.types)
@@ -175,7 +207,7 @@ def since_by_name(old, new, under):
 
 
 def stays_part(map, wanted, under):
-    """The lines of what differs of a part."""
+    """Yields the lines about the differences from the wanted map, for the items of a part."""
     own, due = names_at(map, under), names_at(wanted, under)
     for line in stays(map, wanted):
         name, _, told = line.partition(": ")
@@ -185,20 +217,22 @@ def stays_part(map, wanted, under):
 
 
 def kept(map, names):
-    """The items of these names, to be looked up alone."""
+    """Returns a copy of the map that has only the items of these names."""
     other = map.copy()
     other.items = {name: item for name, item in other.items.items() if name in names}
     return other
 
 
 def aside_part(map, wanted, under):
-    """The lines of ids that differ, of buckets of a part."""
+    """Returns the lines that count the buckets of a part with different ids, and those with different class ids."""
     names = names_at(map, under) | names_at(wanted, under)
     return aside(kept(map, names), kept(wanted, names))
 
 
 def called(words):
-    """The names by which a command calls items, each with the name that the item has behind it, if it is there then."""
+    """Returns the names of the items that a command edits, each with the name that the item has after the command.
+
+    If the command removes the item, the second name is None. The names in the location of the command don't count."""
     first, *names = words
     if first == "swap-bucket":
         return [(names[0], names[1]), (names[1], names[0])]
@@ -208,7 +242,10 @@ def called(words):
 
 
 def strangers(map, wanted, under, commands):
-    """The commands that name an item that neither stood in the part nor shall stand there."""
+    """Yields the commands that edit an item outside of the part.
+
+    An item is outside of the part if it wasn't in the part before the plan, and if the wanted map doesn't have its
+    name in the part. Here the name is the item's name after the command."""
     stood, shall, now = ids_at(map, under), names_at(wanted, under), map
     for words in commands:
         for before, behind in called(words):
@@ -218,12 +255,24 @@ def strangers(map, wanted, under, commands):
 
 
 def spare_names(commands):
-    """The names that a plan gives to buckets for a time, or to buckets that it can't remove."""
+    """Returns the names that a plan gives with `rename-bucket`.
+
+    A plan gives some of these names only for a time, or to buckets that it can't remove."""
     return {words[2] for words in commands if words[0] == "rename-bucket"}
 
 
 def check_plan(ran, map, wanted, under, words):
-    """How many commands a plan of a part has, and how many lines stay behind it."""
+    """Checks the plan for a part, and raises `ValueError` if the plan is wrong.
+
+    - The model applies the commands. It must refuse none of them, and each command must change the map.
+    - The plan must report exactly the differences of the part that remain after the commands. If the plan has
+      commands, fewer differences must remain than without the commands.
+    - Each item that a command edits must have been in the part before the plan, or the wanted map must have it in the
+      part (`strangers`). The commands must create no bucket outside of the part of the wanted map.
+    - A second run must print the same plan. A run with `--strict`, whose job has no scripts, must end with status 5 if
+      differences remain.
+
+    ran runs the program with these words. Returns how many commands the plan has, and how many differences remain."""
     status, text, told = ran(words)
     commands = commands_of(text)
     made = made_by(map, commands)
@@ -242,7 +291,7 @@ def check_plan(ran, map, wanted, under, words):
 
 
 def missing(map, under, kind, of_class=None):
-    """How a run ends of which a name isn't there, or nothing."""
+    """Returns how a run must end if the map doesn't have the item, the type or the class, and otherwise None."""
     if under is not None and under not in map.items:
         return 1, "", f"crushedit: no item {under}\n"
     if kind is not None and number_of(map, kind) is None:
@@ -257,12 +306,14 @@ def classes_of(map):
 
 
 def any_name(dice, map):
-    """An item, mostly one that holds others."""
+    """Returns the name of a random item. A bucket with items is four times as probable as any other item."""
     return dice.choice([name for name, item in map.items.items() for _ in range(4 if item["kids"] else 1)])
 
 
 def any_part(dice, map):
-    """A name and a type, of which either may be missing in the map, or not be asked for."""
+    """Returns a random name for `--under` and a random type for `--down-to`.
+
+    One of them may be None. The map may not have this name or this type."""
     own = [map.types[map.items[name]["kind"]] for name in map.items if map.items[name]["kids"]]
     kind = dice.choice([None, None, *KINDS, *own, *own, *own])
     under = dice.choice([any_name(dice, map)] * 5 + NAMES[:1])
@@ -270,7 +321,7 @@ def any_part(dice, map):
 
 
 def with_classes(dice, map):
-    """The map, in which half of the devices without a class got one."""
+    """Gives a random class to about half of the devices that have no class, and returns the map."""
     for name, item in map.items.items():
         if map.is_device(name) and not item.get("class") and dice.random() < 0.5:
             item["class"] = dice.choice(["hdd", "ssd"])
@@ -278,7 +329,7 @@ def with_classes(dice, map):
 
 
 def job_of(dice, index):
-    """A job, and the text of the map to compare with: of each four one has nothing in common with the job's."""
+    """Returns the text of a random job, and the text of the second map, with which the job's map is compared."""
     front, *sections = random_job(dice)[0].partition("%")
     map = with_classes(dice, with_settings(dice, read_map(front)[0]))
     other = any_map(dice) if index % 4 == 3 else after_script(dice, map)
@@ -286,7 +337,10 @@ def job_of(dice, index):
 
 
 class Trial:
-    """A job in a folder, in which MAP is the other map: what the program prints of parts, and what is due."""
+    """The runs of a job, and the outputs that the model computes for these runs.
+
+    The folder has the job in the file JOB, the second map in the file MAP, and the map after the scripts in the file
+    AFTER."""
 
     def __init__(self, program, folder, job, counts):
         self.program, self.folder, self.counts = program, folder, counts
@@ -300,7 +354,10 @@ class Trial:
         return run(self.program, ["--in-turn", HISTORY, "--exit-code", *words, of], "", self.folder)
 
     def compare(self, what, words, text, differs, lacks=None):
-        """What a run of these words has to print, and whether its status tells of a difference, or how it ends by a name."""
+        """Runs the program with these words, and checks its status and its output.
+
+        text is what the run must print, and differs says whether the status must be 6. If lacks is given, the map
+        lacks a name, and lacks is how the run must end."""
         expect(what, self.ran(words), lacks or (6 if differs else 0, text, ""))
         self.counts["missing" if lacks else what] += 1
 

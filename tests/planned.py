@@ -1,11 +1,19 @@
-"""The differences by names between a map and the wanted map, and the text of a plan, by the plain model."""
+"""Computes the text of a plan, and the differences that remain after a plan: a part of the plain model.
+
+The plain model is a second implementation of crushedit, in Python, with which tests compare the program. A *plan* is
+the output of `--to`: the commands that change one map into the *wanted map*, and the differences that remain after
+these commands. The module compares the items of two maps by their names. Some functions check the order of a plan's
+commands. A command is given as the list of its words.
+"""
 
 from looking import place_of, tree_rows, type_name
 from model import is_change, run_one, shown, text_of
 
 
 def counterpart(map, other, name):
-    """Whether the map has this item of the other one: one of its name, both buckets, or devices of one id."""
+    """Returns whether the map has the counterpart of an item of the other map.
+
+    The counterpart has the same name. Either both are buckets, or both are devices with the same id."""
     if name not in map.items:
         return False
     if map.is_device(name) and other.is_device(name):
@@ -18,7 +26,7 @@ def place(map, name):
 
 
 def parts(map, wanted, name):
-    """What there is to tell of an item that both have."""
+    """Yields what differs between the two maps for an item that both maps have."""
     one, other = map.items[name], wanted.items[name]
     if type_name(map, name) != type_name(wanted, name) and not map.is_device(name):
         yield f"type {type_name(map, name)}, wanted {type_name(wanted, name)}"
@@ -37,7 +45,7 @@ def rule_lines(map):
 
 
 def stays(map, wanted):
-    """The lines of what differs."""
+    """Returns the lines about the differences between a map and the wanted map, except for different ids."""
     lines = []
     for _, name in tree_rows(wanted):
         if counterpart(map, wanted, name):
@@ -53,7 +61,7 @@ def stays(map, wanted):
 
 
 def aside_counts(map, wanted):
-    """How many of the buckets that both have differ in their ids, and how many in their class ids."""
+    """Counts the buckets that both maps have with different ids, and those with different class ids."""
     both = [name for name in wanted.items if not wanted.is_device(name) and counterpart(map, wanted, name)]
     pairs = [(map.items[name], wanted.items[name]) for name in both]
     return {"ids": sum(one["id"] != other["id"] for one, other in pairs),
@@ -61,13 +69,16 @@ def aside_counts(map, wanted):
 
 
 def aside(map, wanted):
-    """The lines of ids that differ, of buckets that both have."""
+    """Returns the lines with the counts of `aside_counts`. A count of 0 has no line."""
     counts = aside_counts(map, wanted)
     return [f"{what} of {count} buckets differ" for what, count in (("ids", counts["ids"]), ("class ids", counts["class_ids"])) if count]
 
 
 def made_by(map, commands):
-    """The map behind these commands, each as its words, of which each is done and changes the map; or what is wrong."""
+    """Returns the map after these commands.
+
+    Raises `ValueError` if a command is refused, if it changes nothing, or if a history line shows it in another
+    form."""
     for words in commands:
         map, line = run_one(map, words)
         if not is_change(line):
@@ -78,8 +89,10 @@ def made_by(map, commands):
 
 
 def remade(map, wanted, made, commands):
-    """The names of buckets of both maps that the commands create, although no bucket of the map has left its name: the
-    old bucket isn't in the map after the commands."""
+    """Yields the names of the buckets that the commands have removed and created again, although both maps have them.
+
+    made is the map after the commands. A bucket counts as removed if no item of made has the bucket's id, or if one of
+    the created buckets has this id."""
     created = [words[1] for words in commands if words[0] == "add-bucket"]
     for name in created:
         if counterpart(map, wanted, name) and made.with_id(map.items[name]["id"]) in [None, *created]:
@@ -87,7 +100,7 @@ def remade(map, wanted, made, commands):
 
 
 def moved_late(commands):
-    """The buckets that a plan creates, and that it moves later than with the next command."""
+    """Yields the buckets that a plan creates and moves, if the first move isn't the next command."""
     for at, words in enumerate(commands):
         if words[0] == "add-bucket":
             moves = [later for later, other in enumerate(commands) if later > at and other[:2] == ["move", words[1]]]
@@ -96,13 +109,15 @@ def moved_late(commands):
 
 
 def class_after(commands, at, device):
-    """The class that the device gets first by one of the commands from this position on, or None."""
+    """Returns the first class that the command at this index, or a later command, gives to the device, or None."""
     return next((words[1] for words in commands[at:] if words[0] == "set-device-class" and words[2] == device), None)
 
 
 def class_of_command(commands, at):
-    """The class that a command gives, or that the device gets later whose class the command removes. None for any other
-    command."""
+    """Returns the class that a command is about.
+
+    If the command sets the class of a device, it is this class. If the command removes the class of a device, it is
+    the class that the device gets later, or None if the device gets none. For any other command, it is None."""
     words = commands[at]
     if words[0] == "set-device-class":
         return words[1]
@@ -110,7 +125,7 @@ def class_of_command(commands, at):
 
 
 def out_of_class(commands):
-    """The devices that are without a class while a command comes that is not for the class that they get."""
+    """Yields the devices that have no class and wait for a new class, while a command isn't about this new class."""
     waiting = {}
     for at, words in enumerate(commands):
         if words[0] == "set-device-class":
@@ -122,7 +137,7 @@ def out_of_class(commands):
 
 
 def is_applied(map, commands):
-    """Whether each of the commands is done and changes the map."""
+    """Returns whether the map refuses none of the commands, and each of them changes the map."""
     for words in commands:
         map, line = run_one(map, words)
         if not is_change(line):
@@ -131,8 +146,10 @@ def is_applied(map, commands):
 
 
 def weighed_twice(map, commands):
-    """The devices that a `reweight` weighs although a later `reweight-subtree` weighs them too, and no command in between
-    is refused without the `reweight`."""
+    """Yields the devices whose weight is set by an unnecessary `reweight`.
+
+    A later `reweight-subtree` sets the weight of the device again. The `reweight` is unnecessary if the commands after
+    it, up to this `reweight-subtree`, are all applied without the `reweight`, and each of them changes the map."""
     weighed = {}
     for at, words in enumerate(commands):
         if words[0] == "reweight-subtree":
@@ -146,7 +163,7 @@ def weighed_twice(map, commands):
 
 
 def plan_text(commands, map, wanted):
-    """The text of a plan of these commands, which lead to the map."""
+    """Returns the text of a plan with these commands. map is the map after the commands."""
     rest = stays(map, wanted)
     lines = [f"# {len(commands)} commands", *(" ".join(words) for words in commands)]
     lines += [f"# {len(rest)} differences stay"] * bool(rest) + [f"# {line}" for line in rest + aside(map, wanted)]
@@ -154,5 +171,5 @@ def plan_text(commands, map, wanted):
 
 
 def commands_of(text):
-    """The commands of a plan's text, each as its words."""
+    """Returns the commands in the text of a plan, each as the list of its words."""
     return [line.split() for line in text.splitlines() if not line.startswith("#")]

@@ -1,19 +1,34 @@
-"""Plans between random maps, there and back: each command is done, and the differences that remain are those that are printed.
+"""Runs crushedit with `--to` on pairs of random maps, and checks the plans with the plain model.
 
     python3 tests/plans.py crates/crushedit/out/crushedit [PAIRS [SEED]]
 
-Of each four pairs three are a map, and the same after a random script; the fourth has two maps that have nothing in
-common but names. The plan from the one map to the other (`--to`), and the one back, are made by the plain model: each
-command has to be done and to change the map, and the text has to be that which the model prints of these commands and
-of the maps (`planned.py`). If a plan has commands, fewer differences have to remain after them than without them; ids
-are no differences. No bucket that both maps have by name may be removed and created again. After the commands of a plan,
-a second plan has to have no commands. A second run has to print the same plan, `--as-ceph` has to print the same commands
-as Ceph's own, and with `--strict` a difference that remains has to end the run. For every other pair the program matches
-buckets by names only (`--by-name`).
+The plain model is a second implementation of crushedit, in Python. A *plan* is the output of `--to`: the commands that
+change one map into another map (the *wanted map*), and the differences that remain after these commands. There are
+PAIRS pairs (1000 if PAIRS isn't given). The SEED may be any word. Without a SEED, the test draws a random seed. The
+test prints the seed.
 
-The status is 1 if a plan is wrong, or if a difference remains on the way there for more than 4 in 100 of the pairs made by
-a script, rounded up. The test prints how often that was, and which differences remained. The seed may be any word; without
-one it is drawn.
+In three of every four pairs, the second map is the first map after a random script. In the fourth pair, the two maps
+are independent random maps, with names from the same short list. For each pair, the test checks the plan from the
+first map to the second map (*there*), and the plan from the second map to the first map (*back*). For every other
+pair, the program gets the option `--by-name`. These are the checks:
+
+- The model applies the commands. It must refuse none of them, and each command must change the map. The text of the
+  plan must be the text that the model prints for these commands (`planned.py`), with the differences that then remain.
+- If a plan has commands, fewer differences must remain after the commands than before them. Different ids don't count.
+- If both maps have a bucket of the same name, the plan must not remove this bucket and create it again.
+- If a plan creates a bucket and moves it, the first move must be the next command (`moved_late`).
+- If a plan removes the class of a device and later gives the device a new class, all commands in between must be about
+  the new class (`out_of_class`).
+- No `reweight` may be unnecessary because of a later `reweight-subtree` (`weighed_twice`).
+- After the commands of a plan, a second plan to the same wanted map must have no commands.
+- A second run must print the same plan. With `--as-ceph`, the program must print Ceph's own commands for the same
+  plan.
+- With `--strict`, the run must end with status 5 if a difference remains.
+
+The test prints each wrong plan with its two maps. At the end, it prints the numbers of plans, commands and wrong
+plans. The plans from a first map to the same map after a script are also counted separately: the test prints how many
+of them leave a difference, and which differences these are. The status is 1 if a plan is wrong, or if more than 4 in
+100 of these plans (rounded up) leave a difference.
 """
 
 import collections
@@ -31,13 +46,13 @@ from model import run_one
 from planned import commands_of, made_by, moved_late, out_of_class, plan_text, remade, stays, weighed_twice
 from reading import read_map
 
-# Of how many hundred pairs made by scripts so many may leave a difference.
+# At most so many of 100 plans may leave a difference. Only plans from a map to the same map after a script count.
 MOST_STAYING = 4
 TUNABLES = [[], [("choose_total_tries", 50)], [("choose_total_tries", 51)]]
 
 
 def with_settings(dice, map):
-    """The map with tunables, and with a rule that takes a bucket of it."""
+    """Gives the map random tunables, and a rule that takes a random bucket of the map, and returns the map."""
     map.tunables = dice.choice(TUNABLES)
     buckets = [name for name in map.items if not map.is_device(name)]
     take = "\tstep take {}" + dice.choice(["", " class ssd"])
@@ -59,7 +74,7 @@ def after_script(dice, map):
 
 
 def pair_of(dice, index):
-    """A map and another one, as they are read of their texts, and whether a script made the one of the other."""
+    """Returns two maps, as the model reads them from their texts, and whether a script has made the second map."""
     map = any_map(dice)
     is_scripted = index % 4 < 3
     other = after_script(dice, map) if is_scripted else any_map(dice)
@@ -77,14 +92,18 @@ def expect(what, got, due):
 
 
 def plan_after(program, folder, words, made):
-    """The commands of the plan from the map after a plan to the same wanted map."""
+    """Returns the commands of a second plan to the same wanted map. It begins at made, the map after the first
+    plan."""
     with open(os.path.join(folder, "made"), "w") as out:
         out.write(made.text())
     return commands_of(run(program, folder, [*words, "made"])[1])
 
 
 def check(program, folder, map, wanted, identity):
-    """What stays behind a plan from the map of the file `map` to that of the file `wanted`."""
+    """Checks the plan from the map in the file `map` to the map in the file `wanted`.
+
+    identity has the option `--by-name`, or no option. Raises `ValueError` if the plan is wrong. Returns the lines
+    about the differences that remain, and the number of commands."""
     words = ["--to", "wanted", *identity]
     status, text, told = run(program, folder, [*words, "map"])
     expect("status and standard error", (status, told), (0, ""))
