@@ -16,18 +16,17 @@ outputs:
   weights must be those of the whole tree.
 - The same with `--class CLASS`: the tree must have only the devices of the class, and the items that have such a
   device below them. The weight of an item must be the sum of the weights of these devices.
-- `--since MAP --under NAME`: the output must have the model's lines about certain items. These are the items of the
-  part below NAME in the new map, and the items of the part in the old map. In the old map, the part begins with the
-  item that has the id of NAME.
+- `--since MAP --under NAME`: the second map is the old map, and the map after the scripts is the new map. The output
+  must have the model's lines about the items that are in the part in the new map, in the old map, or in both. In the
+  old map, the part begins with the item that has the id of NAME.
 - `--since MAP --by-name`, with and without `--under NAME`: the output must have the lines that docs/dev/names.md
   describes. This script computes these lines (`changed_lines`).
 - `--to MAP --under NAME`, with and without `--by-name`: `check_plan` says what the plan must be like.
 
-All runs have the option `--exit-code`. If a run has no `--strict`, the status must be 6 if the output has a difference
-or a command, and otherwise
-0. For a tree, the status must be 6 if the scripts have changed the map. If the map doesn't have the NAME, TYPE or
-   CLASS, the run must end with status 1 and `no item`, `no type` or `no class`. The test counts such a run as
-   `missing`.
+All runs have the option `--exit-code`. The status of a run without `--strict` must be 6 if the output has a difference
+or a command. For a tree, the status must be 6 if the scripts have changed the map. In all other cases, the status must
+be 0, with one exception. If the map doesn't have the NAME, TYPE or CLASS, the run must end with status 1 and `no
+item`, `no type` or `no class`. The test counts such a run as `missing`.
 
 The test prints each job for which something is wrong. Its last line has the number of these jobs, and the numbers of
 the compared outputs. If a job is wrong, the status is 1.
