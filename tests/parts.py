@@ -25,8 +25,8 @@ outputs:
 
 All runs have the option `--exit-code`. The status of a run without `--strict` must be 6 if the output has a difference
 or a command. For a tree, the status must be 6 if the scripts have changed the map. In all other cases, the status must
-be 0, with one exception. If the map doesn't have the NAME, TYPE or CLASS, the run must end with status 1 and `no
-item`, `no type` or `no class`. The test counts such a run as `missing`.
+be 0, with one exception. The run must end with status 1 if the map doesn't have the NAME, TYPE or CLASS. Standard
+error must then say `no item`, `no type` or `no class`. The test counts such a run as `missing`.
 
 The test prints each job for which something is wrong. Its last line has the number of these jobs, and the numbers of
 the compared outputs. If a job is wrong, the status is 1.
