@@ -38,7 +38,7 @@ def unquoted(cell):
 def sentences(heading, name):
     """Returns the sentences of the table in a section of RULES.md, by the names in the table's column `name`.
 
-    heading is the heading of the section."""
+    `heading` is the heading of the section."""
     section = RULES.read_text().partition(f"\n## {heading}\n")[2].partition("\n## ")[0]
     rows = [re.split(r" ?\| ?", line)[1:-1] for line in re.findall(r"(?m)^\|.*\|$", section)]
     own, said = rows[0].index(name), rows[0].index("Sentence")
@@ -129,8 +129,8 @@ def weight_meant(word):
 def wrong(slot, word, count):
     """Returns what `--explain` says about a word of a script's line that doesn't fit.
 
-    slot is the kind of word that fits here (as in FORMS), or "" if the form has no more words. count is the number of
-    pairs TYPE=NAME before the word."""
+    `slot` is the kind of word that fits here (as in FORMS), or "" if the form has no more words. `count` is the number
+    of pairs TYPE=NAME before the word."""
     told = f"`{shown_line(word)}`"
     if slot == "device":
         digits = re.sub("^osd\\.", "", bare(word))
@@ -285,7 +285,7 @@ def rule_wanted(words):
 def wanted(found):
     """Returns what the grammar allows after these words of a map's text, and the bucket or rule that isn't closed.
 
-    found is the list of the words, each with its place before it. All these words fit the grammar. What the grammar
+    `found` is the list of the words, each with its place before it. All these words fit the grammar. What the grammar
     allows has the form that `bucket_wanted` returns. The bucket or rule is a pair of its place and its first two
     words. It is None if every bucket and rule is closed, or if the last word is the first word of a bucket or rule."""
     late = False
@@ -338,8 +338,8 @@ def not_begun(text):
 def flaw_told(text, kind, at, files):
     """Returns the place that `--explain` shows for a fault of a map's text, and the sentence about this fault.
 
-    kind is the name of the fault, and at is its place. files are the files of the text, as `own_line` takes them. If
-    the text ends too early, the place that is shown is the place of the last word."""
+    `kind` is the name of the fault, and `at` is its place. `files` are the files of the text, as `own_line` takes
+    them. If the text ends too early, the place that is shown is the place of the last word."""
     from reading import words
 
     word = (re.compile("[{}]|[A-Za-z0-9._-]+").match(text, at) or [""])[0]
@@ -412,7 +412,7 @@ def flaw_told(text, kind, at, files):
 def own_line(line, files):
     """Returns the name of the file from which a line of the text comes, and the number of the line in this file.
 
-    files are the files whose lines make up the text, in the order of the text. Each file is given as its name, the
+    `files` are the files whose lines make up the text, in the order of the text. Each file is given as its name, the
     number of its first line in the text, and the number of this line in the file itself. The name may be "". The
     number in the file is 0 if crushedit has put this line before the lines of the file, and otherwise 1. A line
     belongs to the last file whose first line isn't after it."""
@@ -464,8 +464,8 @@ def place(text, at, files):
 def fault_text(text, fault, files=(("", 1, 1),), of_runs=""):
     """Returns the lines that `--explain` prints about a fault.
 
-    text is the text with the fault, and files are its files, as `own_line` takes them. fault has the words of the
-    first line on standard error, such as `byte 326: UnknownType`. of_runs is `since: ` if the text is the map of
+    `text` is the text with the fault, and `files` are its files, as `own_line` takes them. `fault` has the words of
+    the first line on standard error, such as `byte 326: UnknownType`. `of_runs` is `since: ` if the text is the map of
     `--since`, and otherwise "". If a fault of this map has no place, its sentence is in the section "Sentences of
     runs" of RULES.md. An example is `TooLong`."""
     where, _, kind = fault.rpartition(": ")
@@ -493,8 +493,8 @@ def fault_text(text, fault, files=(("", 1, 1),), of_runs=""):
 def unread_text(line, name="", reason=""):
     """Returns the standard error of a run with `--explain` that can't open or can't read its input.
 
-    line is the first line without `crushedit: `, such as `read fault`. name is the name of the file, and reason is the
-    system's reason. Without a reason, the input is standard input, and no line names it."""
+    `line` is the first line without `crushedit: `, such as `read fault`. `name` is the name of the file, and `reason`
+    is the system's reason. Without a reason, the input is standard input, and no line names it."""
     return f"crushedit: {line}\n  {OF_RUNS[line]}\n" + (f"  {shown(name)}: {reason}\n" if reason else "")
 
 
@@ -502,8 +502,8 @@ def written_text(written, text):
     """Returns the lines that `--explain` prints about the map's text at the beginning of a job.
 
     There is a line if the map's text has carriage returns, but no line feeds. There is also a line for each bucket
-    whose weight in the text isn't the sum of the weights of its devices. written has the name of each such bucket, the
-    weight as it is in the text, and the sum. text is the text of the whole job."""
+    whose weight in the text isn't the sum of the weights of its devices. `written` has the name of each such bucket,
+    the weight as it is in the text, and the sum. `text` is the text of the whole job."""
     text = "" if text.startswith("%") else text.partition("\n%")[0] + "\n" * ("\n%" in text)
     alone = "\r" in text and "\n" not in text
     returns = "the text has carriage returns but no line feeds, so its first comment never ends\n" if alone else ""
@@ -543,7 +543,7 @@ def location_of(words):
 def blamed_of_location(map, at, kind):
     """Returns the type or bucket of a location that a refusal is about, or None if it is about another name.
 
-    at is the location, as a list of pairs of a type and a bucket. kind is the name of the refusal."""
+    `at` is the location, as a list of pairs of a type and a bucket. `kind` is the name of the refusal."""
     kinds, names = [kind for kind, _ in at], [name for _, name in at]
     if kind == "BadLocation":
         wrong = [own for place, own in enumerate(kinds) if number_of(map, own) == 0 or own in kinds[place + 1 :]]
@@ -556,7 +556,7 @@ def blamed_of_location(map, at, kind):
 def blamed(map, words, kind):
     """Returns the name that the refusal of a command is about.
 
-    map is the map that refused the command, and kind is the name of the refusal."""
+    `map` is the map that refused the command, and `kind` is the name of the refusal."""
     command, names = words[0], words[1:]
     if command in ("add", "set", "create-or-move", "move"):
         return blamed_of_location(map, location_of(names), kind) or names[0]
@@ -594,8 +594,8 @@ def near_item(map, name):
 def near_name(map, name, kind):
     """Returns the first similar name of an item or a type, for a name that the map doesn't have.
 
-    kind is the name of the refusal. The result is None if no name is similar, or if kind is neither `NoSuchType` nor
-    `NoSuchItem`."""
+    `kind` is the name of the refusal. The result is None if no name is similar, or if `kind` is neither `NoSuchType`
+    nor `NoSuchItem`."""
     if kind == "NoSuchType":
         return next((other for other in map.types.values() if is_near(name, other)), None)
     return near_item(map, name) if kind == "NoSuchItem" else None
@@ -608,9 +608,9 @@ def taking_rule(map, name):
 def sentence_of(words, kind, is_itself, count, near):
     """Returns the sentence about a refusal, before words in capital letters, such as NAME, are replaced.
 
-    words are the words of the refused command, and kind is the name of the refusal. is_itself says whether the command
-    would move a bucket into itself. count is the number of items in the bucket if the refusal is `NotEmpty`. near is
-    the similar name that `near_name` has found, if there is one."""
+    `words` are the words of the refused command, and `kind` is the name of the refusal. `is_itself` says whether the
+    command would move a bucket into itself. `count` is the number of items in the bucket if the refusal is `NotEmpty`.
+    `near` is the similar name that `near_name` has found, if there is one."""
     if kind == "NotADevice" and words[0].endswith("device-class"):
         return "NAME is a bucket: only devices have a class"
     if kind == "WrongType" and words[0] == "add-bucket":
@@ -645,7 +645,7 @@ def seen_in(map, words, name, kind):
 def edit_reason(map, edit, kind, looks):
     """Returns the sentence that says why the map refused a command.
 
-    edit is the command, and kind is the name of the refusal. looks says whether to search for a similar name."""
+    `edit` is the command, and `kind` is the name of the refusal. `looks` says whether to search for a similar name."""
     words = edit.split(" ")
     name = blamed(map, words, kind)
     near = near_name(map, name, kind) if looks else None
@@ -664,8 +664,8 @@ def after_edits(map, edits):
 def call_reason(map, call, line, heads, looks):
     """Returns the text that says why the map refused a call.
 
-    line is the history line of the call. heads has the result of `command_head` for each command of a batch. looks
-    says whether to search for a similar name."""
+    `line` is the history line of the call. `heads` has the result of `command_head` for each command of a batch.
+    `looks` says whether to search for a similar name."""
     at, kind = re.search(r" = refused (?:at (\d+) )?(\w+) ", line).groups()
     seen, count = re.search(r" begin at (\d+) ", line), re.search(r" changes (\d+)$", line)
     told = line.split(" ", 3)[3].rpartition(" = refused ")[0]
@@ -681,9 +681,9 @@ def call_reason(map, call, line, heads, looks):
 def refused_text(map, made, job, files):
     """Returns the history lines of the refused calls, each followed by a line that says why the call was refused.
 
-    made is the list of all calls of a run, each with its history line, in the order of the history. map is the map
-    before the first call. job is the text of the job with these calls, and files are its files, as `own_line` takes
-    them."""
+    `made` is the list of all calls of a run, each with its history line, in the order of the history. `map` is the map
+    before the first call. `job` is the text of the job with these calls, and `files` are its files, as `own_line`
+    takes them."""
     text, refused, given, lines = "", 0, collections.Counter(), edit_lines(job)
     for call, line in made:
         operator = line.split(" ", 3)[2]
@@ -727,9 +727,9 @@ def created_hints(map, edits):
 def created_text(map, made, explain):
     """Returns the history line of each call that created more buckets than it has commands `add-bucket`.
 
-    If explain is true, the hints for the call's created buckets follow after its history line. The hints end before
-    the call with which the number of these buckets exceeds MOST_LOOKS. made is the list of all calls of a run, each
-    with its history line. map is the map before the first call."""
+    If `explain` is true, the hints for the call's created buckets follow after its history line. The hints end before
+    the call with which the number of these buckets exceeds MOST_LOOKS. `made` is the list of all calls of a run, each
+    with its history line. `map` is the map before the first call."""
     text, looks = "", MOST_LOOKS
     for call, line in made:
         if makes_more(call, line):
@@ -744,9 +744,9 @@ def created_text(map, made, explain):
 def is_reason(line, reason, job, files):
     """Returns whether a line on standard error can be the reason for a refused call, whatever map refused the call.
 
-    line is the history line of the call, and reason is the line after it. If the call is a batch that isn't stale, the
-    reason must name a line on which the operator of the call has a command. job is the text of the job, and files are
-    its files, as `own_line` takes them."""
+    `line` is the history line of the call, and `reason` is the line after it. If the call is a batch that isn't stale,
+    the reason must name a line on which the operator of the call has a command. `job` is the text of the job, and
+    `files` are its files, as `own_line` takes them."""
     at, kind = re.search(r" = refused (?:at (\d+) )?(\w+) ", line).groups()
     if kind == "Stale":
         return reason == f"  {call_reason(None, None, line, [], True)}\n"

@@ -91,7 +91,7 @@ def class_buckets(text):
 def compare(program, crushtool, text, is_untyped, counts):
     """Returns a text that shows the first difference between the dump and the document of a map, or None.
 
-    If is_untyped is true, the line of type 0 is removed from the map, unless a rule needs this type."""
+    If `is_untyped` is true, the line of type 0 is removed from the map, unless a rule needs this type."""
     is_untyped = is_untyped and TYPE in text and " type osd\n" not in text
     counts["without type 0"] += is_untyped
     crushtool.compiled(text.replace(TYPE, "") if is_untyped else text, "map")

@@ -5,10 +5,10 @@
 
 The script starts crushedit with the limits FROM, FROM + STEP, and so on, up to TO. `--space` is for the address space,
 and `--stack` is for the stack. The numbers are in kB (1,024 bytes), as `ulimit -v` and `ulimit -s` take them. A run
-can end with status 0, with another status and a line on standard error, by a signal, or in the loader (status 127)
-before the program begins. For each job, the script prints one line for each range of limits in which the runs end in
-the same way. If such a run doesn't end with status 0, the line also says how many bytes the run has written. The
-status of the script is then 0, however the runs end. The runs have three parts:
+can end with status 0, with another status and a line on standard error, or by a signal. It can also end in the loader
+(status 127), before the program begins. For each job, the script prints one line for each range of limits in which the
+runs end in the same way. If such a run doesn't end with status 0, the line also says how many bytes the run has
+written. Without `--fits`, the status of the script is 0, however the runs end. The runs have three parts:
 
 1. Jobs with little address space, and the same jobs with little stack. The first job edits a map of three devices. The
    second job edits the device in the innermost of 4,096 nested buckets. The third job has two operators. Each job runs
@@ -73,7 +73,7 @@ def fork():
 def ending(words, job, kind, limit):
     """Returns how a run with these words ends under a limit (in kB). The run starts in the folder of the job.
 
-    kind is the kind of the limit, such as RLIMIT_STACK."""
+    `kind` is the kind of the limit, such as RLIMIT_STACK."""
     def limited():
         resource.setrlimit(kind, (limit * 1024, limit * 1024))
 
@@ -114,7 +114,7 @@ def edits_at_the_foot():
 def misfits(program, folder, stack):
     """Yields a line for each run of an edit that doesn't end with status 0 and an empty standard error.
 
-    stack is the stack of the runs in kB. Each edit has one run with and one run without `--in-turn`."""
+    `stack` is the stack of the runs in kB. Each edit has one run with and one run without `--in-turn`."""
     job = os.path.join(folder, "job")
     for name, text in edits_at_the_foot():
         with open(job, "w") as out:
@@ -128,8 +128,8 @@ def misfits(program, folder, stack):
 def endings_of(program, folder, name, text, forms, kinds):
     """Yields the lines to print for a job: how its runs end with each of the forms, under each kind of limit.
 
-    forms are lists of options. For each kind of limit, kinds has its name in the output, its number for `setrlimit`,
-    and the first limit, the last limit and the step."""
+    `forms` are lists of options. For each kind of limit, `kinds` has its name in the output, its number for
+    `setrlimit`, and the first limit, the last limit and the step."""
     job = os.path.join(folder, "job")
     with open(job, "w") as out:
         out.write(text)

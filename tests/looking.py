@@ -1,12 +1,12 @@
 """Computes what a run prints, and how the run ends: a part of the plain model.
 
 The plain model is a second implementation of crushedit, in Python, with which tests compare the program. This module
-computes the outputs that take the place of the map's text: the tree (`--tree`), what has changed since another map
-(`--since`), and Ceph's own commands (`--as-ceph`). It also computes the status and standard error of a run, for
-example with `--strict` or `--no-make`.
+computes the outputs that a run can print in place of the map's text. These are the tree (`--tree`), what has changed
+since another map (`--since`), and Ceph's own commands (`--as-ceph`). It also computes the status and standard error of
+a run, for example with `--strict` or `--no-make`.
 
 - A *call* is a batch, or a command that is in no batch. Its *history line* shows the call and the reply to the call.
-- The parameter *made* of many functions is the list of the calls of a run, in the order in which they were made. For
+- The parameter `made` of many functions is the list of the calls of a run, in the order in which they were made. For
   each call, the list has the call and its history line.
 """
 
@@ -59,7 +59,7 @@ def differences(old, was, new, name):
     """Yields the parts of the line of an item that both maps have, each with the name of the count that counts it.
 
     The counts are in the last line of the output, for example `moved`. If no count counts a part, the part has None in
-    place of the name. was is the item's name in the old map, and name is the item's name in the new map."""
+    place of the name. `was` is the item's name in the old map, and `name` is the item's name in the new map."""
     one, other = old.items[was], new.items[name]
     if was != name:
         yield "renamed", f"was {was}"
@@ -84,7 +84,7 @@ def total(map):
 def weight_as(map, number, kind):
     """Returns the total weight of the devices below the bucket with this id, or 0 if the map has no such bucket.
 
-    If kind is the name of a class, only the devices of this class count. If kind is None, all devices count."""
+    If `kind` is the name of a class, only the devices of this class count. If `kind` is None, all devices count."""
     name = map.with_id(number)
     below = map.below(name) if name else []
     return sum(map.items[n]["weight"] for n in below if map.is_device(n) and kind in (None, map.items[n].get("class")))
@@ -107,7 +107,7 @@ def emptied(old, new):
 def changed_rules(old, new):
     """Returns the lines about the rules that differ.
 
-    old and new are the rules of the two maps. Each rule is a pair: its name, and everything else that the map says
+    `old` and `new` are the rules of the two maps. Each rule is a pair: its name, and everything else that the map says
     about the rule."""
     if old == new:
         return []
@@ -178,7 +178,7 @@ def since_text(old, new):
 def ceph_text(map, made):
     """Returns Ceph's own commands for all commands of the calls that changed the map.
 
-    map is the map before the first of the calls in made."""
+    `map` is the map before the first of the calls in `made`."""
     edits = [words for (_, edits), line in made if is_change(line) for words in edits]
     return "".join(line + "\n" for line in ceph_lines(map, edits))
 
@@ -186,7 +186,7 @@ def ceph_text(map, made):
 def body(words, since, read, map, made):
     """Returns what a run prints before the history, if its command line has these words.
 
-    since is the map of `--since`, read is the map before the calls, and map is the map after the calls."""
+    `since` is the map of `--since`, `read` is the map before the calls, and `map` is the map after the calls."""
     if "--tree" in words:
         return tree_text(map)
     if "--since" in words:
@@ -197,7 +197,7 @@ def body(words, since, read, map, made):
 def run_in_turn(map, scripts):
     """Makes the calls of the scripts, one script after the other.
 
-    Returns the map after all calls, and the list of the calls, each with its history line. scripts has the operator
+    Returns the map after all calls, and the list of the calls, each with its history line. `scripts` has the operator
     and the calls of each script."""
     made, changes = [], 0
     for operator, calls in scripts:
@@ -216,9 +216,9 @@ def reasons(words, read, made, adjusted, text, files):
     """Returns what a run prints on standard error after the first line, if its command line has these words.
 
     With `--explain`, it is the refused calls with their reasons, and the lines about the map's text. With only
-    `--strict`, it is the history lines of the refused calls. read is the map before the first call of made. adjusted
-    has the weights of the map's text that crushedit has replaced. text is the text of the job, and files are the files
-    of the job, as `own_line` in explained.py takes them."""
+    `--strict`, it is the history lines of the refused calls. `read` is the map before the first call of `made`.
+    `adjusted` has the weights of the map's text that crushedit has replaced. `text` is the text of the job, and
+    `files` are the files of the job, as `own_line` in explained.py takes them."""
     if "--explain" in words:
         return refused_text(read, made, text, files) + written_text(adjusted, text)
     return "".join(line for _, line in made if is_refusal(line)) if "--strict" in words else ""
@@ -227,8 +227,8 @@ def reasons(words, read, made, adjusted, text, files):
 def first_line(status, refused, adjusted):
     """Returns the first line on standard error of a run with the status 0 or 5.
 
-    A run with the status 0 prints such a line only if it has replaced weights. refused has the refused calls, and
-    adjusted has the replaced weights."""
+    A run with the status 0 prints such a line only if it has replaced weights. `refused` has the refused calls, and
+    `adjusted` has the replaced weights."""
     if status == 5:
         return f"crushedit: refused {len(refused)}\n"
     return f"crushedit: adjusted {len(adjusted)}\n" if adjusted else ""
@@ -238,7 +238,7 @@ def created_notes(words, read, made):
     """Returns what `--no-make` prints on standard error about calls that created more buckets than they may.
 
     These are the calls that created more buckets than they have commands `add-bucket`. Without `--no-make`, and if
-    there is no such call, the result is "". read is the map before the first call of made."""
+    there is no such call, the result is "". `read` is the map before the first call of `made`."""
     count = sum(makes_more(call, line) for call, line in made)
     if "--no-make" not in words or count == 0:
         return ""
@@ -248,8 +248,8 @@ def created_notes(words, read, made):
 def ending(words, since, read, adjusted, scripts, text, files):
     """Returns the status, the standard output and the standard error of a run whose scripts run one after the other.
 
-    since is the map of `--since`, and read is the map before the scripts. adjusted has the weights of the map's text
-    that crushedit has replaced. text and files are the job, as `reasons` takes them."""
+    `since` is the map of `--since`, and `read` is the map before the scripts. `adjusted` has the weights of the map's
+    text that crushedit has replaced. `text` and `files` are the job, as `reasons` takes them."""
     map, made = run_in_turn(read, scripts)
     refused = [line for _, line in made if is_refusal(line)]
     told = reasons(words, read, made, adjusted, text, files)

@@ -2,13 +2,13 @@
 
     python3 tests/outfile.py PROGRAM [SEED]
 
-In some of the runs, something goes wrong: for example, the disk is full, the user may not write to the folder of FILE,
+In some of the runs, something goes wrong. For example, the disk is full, the user may not write to the folder of FILE,
 or the run is killed. In most trials, the test also checks that crushedit leaves no other file in this folder.
 
 If root starts the test, then crushedit runs as a user without rights. The test itself runs in a mount namespace of its
 own, in which it mounts a small disk, and creates two devices like /dev/null and /dev/full. If the user isn't root or
-may not mount anything, the test leaves out the trials of these devices and of the small disk, and says so in its last
-line. No trial gives crushedit a device of the machine as FILE.
+may not mount anything, the test leaves out the trials of these devices and of the small disk. The last line of the
+test's output then says so. No trial gives crushedit a device of the machine as FILE.
 
 Some runs are killed after random times. The same SEED gives the same random numbers, but the times also depend on the
 speed of the machine. Without a SEED, the random numbers differ each time. The test prints a line for each comparison

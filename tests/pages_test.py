@@ -11,8 +11,8 @@ The pages are those of PAGES. These are the rules for their examples:
 - In an output, a line of two dots stands for any lines. Words may follow after the two dots and a space.
 - Each example runs in a new folder. There, map.txt is the map of the page, and examples/ leads to the folder examples/
   of the repository.
-- If the first line of a Python block is a comment with a file name, the folders of the page's examples have a file of
-  this name. This file has the other lines of the block.
+- The first line of a Python block can be a comment with a file name. Then the folders of the page's examples have a
+  file of this name, with the other lines of the block.
 
 Then the test checks these statements:
 
@@ -101,7 +101,7 @@ def is_shown(printed, shown):
 def run_in(here, command, environment, stdout=None):
     """Runs a command of bash in this folder, and returns its status and its output as a `CompletedProcess`.
 
-    If stdout is given, standard output goes there, and the `stderr` of the result has standard error. Otherwise the
+    If `stdout` is given, standard output goes there, and the `stderr` of the result has standard error. Otherwise the
     `stdout` of the result has standard output and standard error together."""
     return subprocess.run(["bash", "-c", command], cwd=here, env=environment, text=True,
                           stdout=stdout or subprocess.PIPE, stderr=subprocess.PIPE if stdout else subprocess.STDOUT)

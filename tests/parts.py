@@ -3,9 +3,9 @@
     python3 tests/parts.py crates/crushedit/out/crushedit [JOBS [SEED]]
 
 The plain model is a second implementation of crushedit, in Python. A *part* of a map is an item with everything below
-the item (`--under`), or what is left if everything below the buckets of a type is left out (`--down-to`). A comparison
-by names compares two maps by the names of their items (`--by-name`). There are JOBS jobs (1000 if JOBS isn't given).
-The SEED may be any word. Without a SEED, the test draws a random seed. The test prints the seed.
+the item (`--under`). A part can also leave out everything below the buckets of a type (`--down-to`). A comparison by
+names compares two maps by the names of their items (`--by-name`). There are JOBS jobs (1000 if JOBS isn't given). The
+SEED may be any word. Without a SEED, the test draws a random seed. The test prints the seed.
 
 Each job has a map and scripts, which run one after the other. The map after the scripts is compared with a second map,
 which is in the file MAP. For three of every four jobs, the second map is the job's map after another random script.
@@ -58,7 +58,7 @@ NOWHERE = "nowhere"
 class Cut(Map):
     """A part of a map, whose items have the weights that they have in the whole map.
 
-    names are the names of the items in the part. For the items in closed, the part has nothing below them."""
+    `names` are the names of the items in the part. For the items in `closed`, the part has nothing below them."""
 
     def __init__(self, map, names, closed):
         super().__init__(map.types)
@@ -72,7 +72,7 @@ class Cut(Map):
 def cut(map, under, kind):
     """Returns the part of a map that `--under` and `--down-to` select.
 
-    under is the name for `--under`, and kind is the type for `--down-to`. Each of them is None if its option isn't
+    `under` is the name for `--under`, and `kind` is the type for `--down-to`. Each of them is None if its option isn't
     given."""
     closed = {name for name in map.items if not map.is_device(name) and map.types[map.items[name]["kind"]] == kind}
 
@@ -160,7 +160,7 @@ def changes(old, new, name):
 def changed_lines(old, new, under):
     """Returns the lines about the items that differ in a comparison by names, and the counts of the differences.
 
-    If under is a name, only the items of its part have lines. The counts are always about all items."""
+    If `under` is a name, only the items of its part have lines. The counts are always about all items."""
     counts = dict.fromkeys(["made", "removed", "renamed", "moved", "of other weight", "of other class"], 0)
     lines, was, own = [], names_at(old, under), names_at(new, under)
     for _, name in tree_rows(new):
@@ -243,8 +243,8 @@ def called(words):
 def strangers(map, wanted, under, commands):
     """Yields the commands that edit an item outside of the part.
 
-    An item is outside of the part if it wasn't in the part before the plan, and if the wanted map doesn't have its
-    name in the part. Here the name is the item's name after the command."""
+    An item is outside of the part if two conditions hold. It wasn't in the part before the plan. And the part of the
+    wanted map doesn't have the name that the item has after the command."""
     stood, shall, now = ids_at(map, under), names_at(wanted, under), map
     for words in commands:
         for before, behind in called(words):
@@ -271,7 +271,8 @@ def check_plan(ran, map, wanted, under, words):
     - A second run must print the same plan. A run with `--strict`, whose job has no scripts, must end with status 5 if
       differences remain.
 
-    ran runs the program with these words. Returns how many commands the plan has, and how many differences remain."""
+    `ran` runs the program with these words. Returns how many commands the plan has, and how many differences
+    remain."""
     status, text, told = ran(words)
     commands = commands_of(text)
     made = made_by(map, commands)
@@ -355,8 +356,8 @@ class Trial:
     def compare(self, what, words, text, differs, lacks=None):
         """Runs the program with these words, and checks its status and its output.
 
-        text is what the run must print, and differs says whether the status must be 6. If lacks is given, the map
-        lacks a name, and lacks is how the run must end."""
+        `text` is what the run must print, and `differs` says whether the status must be 6. If `lacks` is given, the
+        map lacks a name, and `lacks` is how the run must end."""
         expect(what, self.ran(words), lacks or (6 if differs else 0, text, ""))
         self.counts["missing" if lacks else what] += 1
 

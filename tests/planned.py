@@ -91,8 +91,8 @@ def made_by(map, commands):
 def remade(map, wanted, made, commands):
     """Yields the names of the buckets that the commands have removed and created again, although both maps have them.
 
-    made is the map after the commands. A bucket counts as removed if no item of made has the bucket's id, or if one of
-    the created buckets has this id."""
+    `made` is the map after the commands. A bucket counts as removed if no item of `made` has the bucket's id, or if
+    one of the created buckets has this id."""
     created = [words[1] for words in commands if words[0] == "add-bucket"]
     for name in created:
         if counterpart(map, wanted, name) and made.with_id(map.items[name]["id"]) in [None, *created]:
@@ -163,7 +163,7 @@ def weighed_twice(map, commands):
 
 
 def plan_text(commands, map, wanted):
-    """Returns the text of a plan with these commands. map is the map after the commands."""
+    """Returns the text of a plan with these commands. `map` is the map after the commands."""
     rest = stays(map, wanted)
     lines = [f"# {len(commands)} commands", *(" ".join(words) for words in commands)]
     lines += [f"# {len(rest)} differences stay"] * bool(rest) + [f"# {line}" for line in rest + aside(map, wanted)]

@@ -17,7 +17,7 @@ pair, the program gets the option `--by-name`. These are the checks:
 - If a plan has commands, fewer differences must remain after the commands than before them. Different ids don't count.
 - If both maps have a bucket of the same name, the plan must not remove this bucket and create it again.
 - If a plan creates a bucket and moves it, the first move must be the next command (`moved_late`).
-- If a plan removes the class of a device and later gives the device a new class, all commands in between must be about
+- A plan may remove the class of a device, and later give the device a new class. All commands in between must be about
   the new class (`out_of_class`).
 - No `reweight` may be unnecessary because of a later `reweight-subtree` (`weighed_twice`).
 - After the commands of a plan, a second plan to the same wanted map must have no commands.
@@ -26,7 +26,7 @@ pair, the program gets the option `--by-name`. These are the checks:
 - With `--strict`, the run must end with status 5 if a difference remains.
 
 The test prints each wrong plan with its two maps. At the end, it prints the numbers of plans, commands and wrong
-plans. The plans from a first map to the same map after a script are also counted separately: the test prints how many
+plans. The plans from a first map to the same map after a script are also counted separately. The test prints how many
 of them leave a difference, and which differences these are. The status is 1 if a plan is wrong, or if more than 4 in
 100 of these plans (rounded up) leave a difference.
 """
@@ -92,8 +92,7 @@ def expect(what, got, due):
 
 
 def plan_after(program, folder, words, made):
-    """Returns the commands of a second plan to the same wanted map. It begins at made, the map after the first
-    plan."""
+    """Returns the commands of a second plan to the same wanted map. `made` is the map after the first plan."""
     with open(os.path.join(folder, "made"), "w") as out:
         out.write(made.text())
     return commands_of(run(program, folder, [*words, "made"])[1])
@@ -102,7 +101,7 @@ def plan_after(program, folder, words, made):
 def check(program, folder, map, wanted, identity):
     """Checks the plan from the map in the file `map` to the map in the file `wanted`.
 
-    identity has the option `--by-name`, or no option. Raises `ValueError` if the plan is wrong. Returns the lines
+    `identity` has the option `--by-name`, or no option. Raises `ValueError` if the plan is wrong. Returns the lines
     about the differences that remain, and the number of commands."""
     words = ["--to", "wanted", *identity]
     status, text, told = run(program, folder, [*words, "map"])
