@@ -5,8 +5,8 @@
 
 packaging/dist.sh packs the program and its pages into an archive, and tests/monitor.sh installs and runs a monitor of
 Ceph. The test runs both scripts in temporary folders that already have files. It also tests that dist.sh works with
-any umask and with an exported CDPATH. The test needs neither root nor the program, and starts no monitor. It prints
-the results as `unittest` does. The status is 1 if a test fails.
+the umask 077 and with an exported CDPATH. The test needs neither root nor the program, and starts no monitor. It
+prints the results as `unittest` does. The status is 1 if a test fails.
 """
 import os
 import pathlib
