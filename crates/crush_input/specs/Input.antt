@@ -11,7 +11,7 @@ pub record IsInput (bytes all : List ℕ) : Type 0 where
   pub read : length bytes ≤ LONGEST_JOB → bytes ≡ all
   pub whole : length all ≤ LONGEST_JOB → bytes ≡ all
 
--- `all` are all bytes of a job, and `stand` are its parts. A part says which lines of a job come from one file of scripts. The bytes of `read` are the bytes that were read, and `all` are the bytes that could be read (`IsInput`). If `all` isn't longer than a job may be, then `read` has the parts `stand`
+-- `all` are all bytes of a job that could be read, and the bytes of `read` are those that were read (`IsInput`). `stand` are the parts of the job. A part says which lines of the job come from one file of scripts. If `all` isn't longer than a job may be, then `read` has the parts `stand`
 pub record IsJoined (read : Joined) (all : List ℕ) (stand : List ScriptSpanData) : Type 0 where
   pub bytes : IsInput read.bytes.items all
   pub spans : length all ≤ LONGEST_JOB → map script_span_data read.spans.items ≡ stand

@@ -88,7 +88,7 @@ IsSecondMapFault bytes (unread.Text fault) = (length bytes ≤ LONGEST_JOB) × I
 IsSecondMapFault bytes unread.TooLong = LONGEST_JOB < length bytes
 IsSecondMapFault bytes unread.Read = Unit {0}
 
--- the faults with which the second map of the option `why` may fail to be read: a fault of this map, or the fault that memory ran out. If the bytes of the map's file are known, they have the fault of the map
+-- the faults with which reading the second map may fail; `why` is the option that names this map. The fault is a fault of this map, or that memory ran out. If the bytes of the map's file are known, they have the fault of the map, unless the file couldn't be read
 abbrev pub IsMapFault : SecondMap → Option (List ℕ) → RunFault → Type 0
 IsMapFault why all (run.SecondMap which fault) = (which ≡ why) × IfSome all (λ bytes. IsSecondMapFault bytes fault)
 IsMapFault why all run.Memory = Unit {0}

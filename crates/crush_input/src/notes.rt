@@ -60,8 +60,8 @@ pub struct History<'a> {
 }
 
 /// Returns the notes on a run's history. The lines of the refused calls come first. Then come the
-/// notes on the map's text, which are stored in the field `weights` of `text`. Without `explain`,
-/// there are no notes on the map's text.
+/// notes on the map's text, which are stored in the field `weights` of `text`. If the job was
+/// parsed without `explain`, this field is empty.
 ///
 /// With `explain`, the reason for the refusal follows after the line of each refused call. Without
 /// `explain`, the notes of a strict run have the lines of the refused calls without reasons, and

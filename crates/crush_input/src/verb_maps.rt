@@ -2,11 +2,12 @@
 //! `plan`. These files have no scripts, and some verbs require them to be complete: the last line
 //! that isn't blank must be `# end crush map`.
 //!
-//! The run of the verb parses the maps. Before the run, [`read_verb_map`] only tests whether a map
-//! is too long, whether it is complete, and whether a line of it begins a script. If a map passes
-//! these tests, [`read_verb_map`] doesn't parse the map. So if the run succeeds, each map was
-//! parsed only once. If the run fails, [`check_verb_map`] parses the maps again, and says whether
-//! one of them is the reason.
+//! The run of the verb parses the maps. Before the run, [`read_verb_map`] tests whether a map is
+//! too long, whether it is complete if the verb requires this, and whether a line of it begins a
+//! script. If a map passes these tests, [`read_verb_map`] doesn't parse the map. So if the run
+//! succeeds, each map was parsed only once. If the run fails with a fault for which
+//! [`may_precede_maps`] is true, the caller calls [`check_verb_map`] for each map. This function
+//! parses the map again, and fails with the reason if the verb can't use the map.
 
 ghost use Rattle.std.specs.Prelude.{◌≡◌, ◌≤◌, ◌<◌, ◌^◌, ◌++◌, ℕ, List, [], Option, Some, IfErr, IfOk, IfSome, false, length, slice_index, true};
 ghost use Rattle.crush_text.specs.Flaw.{IsFlawOrOutOfMemory};
@@ -62,10 +63,10 @@ pub enum VerbMapFault {
     /// The text has this fault. The fault is never that memory ran out.
     #[error("{0}")]
     Text(TextFault),
-    /// The text seems to be cut: the verb requires that the last line that isn't blank is `# end
-    /// crush map`, but it isn't. If the text also has another fault, the text seems to be cut only
-    /// if no line feed is at the place of this fault or after it. Otherwise the other fault is
-    /// reported.
+    /// The text seems to be cut: the verb requires the line `# end crush map` as the last line that
+    /// isn't blank, but the text doesn't end in this way. If the text also has another fault, it
+    /// seems to be cut only if no line feed is at the place of this fault or after the place.
+    /// Otherwise the other fault is reported.
     #[error("cut")]
     Cut,
     /// The file has more than 16,777,216 bytes.
@@ -475,10 +476,11 @@ fn write_refusal<E: Write>(refusal: &VerbMapRefusal, err: &mut E) -> Result<(), 
     put(err, refusal.notes.as_slice())
 }
 
-/// Writes to `err` a line that says which map can't be used and why. The notes follow after this
-/// line. Returns the status of the program: 1 if the map can't be used, 3 if its file couldn't be
-/// opened or read, and 4 if memory ran out. If writing to `err` fails, `written` says so, and the
-/// status doesn't change.
+/// Writes to `err` a line that says why the map can't be used. The line also says whether this is
+/// the map OLD or WANTED, unless memory ran out. The notes follow after this line. Returns the
+/// status of the program: 1 if the map can't be used, 3 if its file couldn't be opened or read, and
+/// 4 if memory ran out. If writing to `err` fails, `written` says so, and the status doesn't
+/// change.
 pub fn report_verb_map<E: Write>(refusal: &VerbMapRefusal, err: &mut E) -> ReportOutcome
     ensures status { result.status ≡ verb_map_status refusal.now.fault }
     ensures writes { Writes result.written (E.contents err.old) (E.contents err.new)
