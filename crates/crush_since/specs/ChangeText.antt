@@ -38,7 +38,7 @@ holder_word (Bucket b) holder None = codes "(root)"
 abbrev pub from_part : ItemData → ItemData → List (List ℕ)
 from_part a b = part (same_option a.view.parent b.view.parent) (codes "from " ++ holder_word a.view.id a.holder a.view.parent)
 
--- the notes on an item that both maps have: one for each column that differs, except for the weight
+-- the notes on an item that both maps have: one for each column that differs, except for the weight and the class ids
 abbrev pub column_notes : SettingData → SettingData → ItemData → ItemData → List (List ℕ)
 column_notes s p a b = name_part a.view b.view ++ type_part s p a.view b.view ++ from_part a b ++ class_part a.view b.view ++ alg_part a.view b.view
 
