@@ -1,4 +1,4 @@
--- Which bucket or rule of a map's text is open at a place, and where a bucket is defined. A place is the index of a byte of the text, from 0. A bucket or a rule is open at a place if its `{` comes before the place, and its `}` doesn't. Only some words of the text count. The words after a byte outside of comments that is allowed only in comments don't count, and neither do the words after a word of more than 255 bytes.
+-- Which bucket or rule of a map's text is open at a place, and where a bucket is defined. A place is the index of a byte of the text, from 0. A bucket or a rule is open at a place if its `{` comes before the place, and its `}` doesn't. Only some words of the text count: those before the first byte that is allowed only in comments but isn't in a comment, and before the first word of more than 255 bytes.
 use Rattle.std.specs.Prelude.{ℕ, false, ◌&&◌, ◌||◌, not, List, [], ◌∷◌, bytes_eq, codes, if◌then◌else◌, take}
 use Rattle.crush_units.specs.Words.{Word, words}
 use Rattle.crush_reasons.specs.declared.around.Around.{Around}

@@ -33,7 +33,7 @@ bucket_sum t None = None
 bucket_sum t (Some (Device d)) = None
 bucket_sum t (Some (Bucket b)) = weight_of t (Bucket b)
 
--- the line for an item of a bucket in the text. The list has the words that follow after the word `item`: a name, `weight`, and the weight in the text. There is no line if the second word isn't `weight`, if no bucket has the name, if the third word isn't a weight, or if this weight is the bucket's sum
+-- the line for an item of a bucket in the text. The list has the words that follow after the word `item`: a name, `weight`, and the weight in the text. There is no line if there are fewer than three words, if the second word isn't `weight`, if no bucket has the name, if the third word isn't a weight, or if this weight is the bucket's sum
 abbrev pub item_line : List Row → List (List ℕ) → List ℕ
 item_line t (name ∷ key ∷ weight ∷ rest) = if bytes_eq key (codes "weight") then line_of_sum name weight (bucket_sum t (id_named t name)) else []
 item_line t words = []

@@ -3,8 +3,8 @@
 //!
 //! A place is the index of a byte of the text, from 0. A bucket or a rule is *open* at a place if
 //! its `{` comes before the place, and its `}` doesn't. Both searches end early in two cases, and
-//! ignore the rest of the text: at a byte outside of comments that is allowed only in comments, and
-//! at a word of more than 255 bytes.
+//! ignore the rest of the text: at a byte that is allowed only in comments but isn't in a comment,
+//! and at a word of more than 255 bytes.
 
 ghost use Rattle.std.specs.Prelude.{◌≡◌};
 ghost use Rattle.crush_units.specs.Words.{words};

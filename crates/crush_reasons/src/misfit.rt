@@ -163,8 +163,7 @@ fn are_digits(most: usize, text: &[u8]) -> bool
 
 /// Whether the word has three parts, one directly after the other: 0 to 10 digits, then a comma or
 /// a point, and then 1 to 18 digits. If such a word is neither a weight nor too large a number, the
-/// reason suggests to write the word with a point, and with `0` before the point if there is no
-/// digit.
+/// reason suggests the word with a point, and with `0` before the point if there is no digit.
 #[tactic(auto, unfolding(crate::specs::Misfit::is_mistyped))]
 fn is_mistyped(word: &[u8]) -> bool
     ensures { result ≡ is_mistyped word.now }

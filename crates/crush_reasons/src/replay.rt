@@ -1,4 +1,4 @@
-//! Applies the edits of those calls of a history that changed the map to a map once more.
+//! Applies edits of a history to a map once more: the edits of those calls that changed the map.
 
 ghost use Rattle.std.specs.Prelude.{◌≡◌, ◌≤◌, List, OnOk, length};
 ghost use Rattle.crush_units.specs.declared.limits.TheConstants.{MOST_EDITS};
