@@ -24,11 +24,11 @@ operators_from s t h k (n ∷ ns) = record { name = n; table = table_of_operator
 abbrev pub found_by : (List Row → Option ItemData) → OperatorData → FoundData
 found_by find o = record { name = o.name; item = find o.table }
 
--- what all tables say about an item of the table t. The item is found by its id in each table
+-- what all tables say about an item of the table t. The item is looked up by its id in each table
 unfoldable pub old_case : List Row → List OperatorData → List Row → WalkStepData → CaseData
 old_case t os z step = record { name = step.item.name; before = item_of t step.item.id; alone = map (found_by (λ u. item_of u step.item.id)) os; after = item_of z step.item.id }
 
--- what all tables say about a new item, which the table t doesn't have. The item is found by its name in each of the other tables
+-- what all tables say about a new item, which the table t doesn't have. The item is looked up by its name in each of the other tables
 unfoldable pub new_case : List Row → List OperatorData → List Row → List ℕ → CaseData
 new_case t os z n = record { name = n; before = None; alone = map (found_by (λ u. new_item t u n)) os; after = new_item t z n }
 

@@ -1,4 +1,4 @@
--- The condition that a list of items has the items of a forest, and that an index of this list by ids is right.
+-- The condition that a list has the items of a forest in order, and that an index gives the position of each item in this list by the item's id.
 use Rattle.std.specs.Prelude.{◌≡◌, ℕ, ◌<◌, ◌^◌, List, length, map}
 use Rattle.crush_model.specs.Forest.{ForestData}
 use Rattle.crush_model.specs.Stands.{Stands}

@@ -1,4 +1,4 @@
--- The conditions that a map, or a list of items, represents an operator's table.
+-- The conditions under which a map, or a list of items, represents an operator's table.
 use Rattle.std.specs.Prelude.{◌≡◌}
 use Rattle.crush_model.specs.Stands.{Stands}
 use Rattle.crush_conflicts.specs.Conflicts.{OperatorData}
