@@ -12,13 +12,14 @@ pub struct Ending {
     pub outcome: Result<Summary, RunFault>,
     /// The lines that are printed on standard error after the first line. With `explain`, they
     /// explain a fault of the job's bytes or of another map, a file that can't be read, and each
-    /// refused call. They also warn of a map's text that has carriage returns and no line feed, and
-    /// list each bucket whose weight in the map's text isn't the sum of the weights of the devices
-    /// below the bucket. If refused calls, created buckets, lost changes or differences that remain
-    /// after the plan ended the run, the lines list them, even without `explain`. If refused calls
-    /// or created buckets ended the run, the lines also list the lost changes. If refused calls
-    /// ended the run, and the run has `no_make`, the lines also list the calls that created more
-    /// buckets than they have `add-bucket` commands. In all other cases there are no lines.
+    /// refused call. With `explain`, they also warn of a map's text that has carriage returns and
+    /// no line feed, and list each bucket whose weight in the map's text isn't the sum of the
+    /// weights of the devices below the bucket. If refused calls, created buckets, lost changes or
+    /// differences that remain after the plan ended the run, the lines list them, even without
+    /// `explain`. If refused calls or created buckets ended the run, the lines also list the lost
+    /// changes. If refused calls ended the run, and the run has `no_make`, the lines also list the
+    /// calls that created more buckets than they have `add-bucket` commands. In all other cases
+    /// there are no lines.
     pub notes: Vec<u8>,
 }
 
