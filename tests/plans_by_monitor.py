@@ -1,22 +1,36 @@
-"""Makes plans of crushedit by a monitor of Ceph, there and back, and compares its map with the wanted one.
+"""Sends plans of crushedit to a monitor of Ceph, and compares the monitor's map with the wanted map of each plan.
 
     python3 tests/plans_by_monitor.py crates/crushedit/out/crushedit FOLDER PAIRS SEED [--json]
 
-In FOLDER a monitor runs that `tests/monitor.sh start` has started. Of each four pairs of maps three are a random map and
-the same after a random script, which the plain model makes; the fourth has two maps that have nothing in common but names.
-The monitor is given the one map, and makes the commands of `--to` with `--as-ceph` to the other, each of which it has to
-accept. Of its map, as `crushtool -d` prints it, as many differences have to stay as the plan told, and these; where it told
-none, `ceph osd crush dump` has the wanted names, types, places, classes, and weights of devices within a unit, 0.00002,
-since Ceph cuts what crushedit rounds. Then it goes back in the same way, from the map that the monitor has then. Of every
-other pair buckets are told by names (`--by-name`).
+A *plan* is the output of `--to`: commands that change a map into a wanted map, and the differences that remain after
+these commands. The test needs root, and a monitor that `tests/monitor.sh start` has started in FOLDER.
 
-With --json the plan is the document of `--to` with `--json`, each of whose commands is sent to the monitor as it stands there,
-and not by the forms that the monitor hands out, as the command `ceph` sends one.
+The test makes PAIRS random pairs of maps. In three of four pairs, the second map is the first map after a script of
+random commands. The plain model, a second implementation of crushedit in Python, applies this script. In every fourth
+pair, the two maps have only names of items in common. For each pair, the test gives the first map to the monitor. Then
+it sends the monitor the commands of the plan from the first map to the second map. After that, it sends the commands
+of the plan from the map that the monitor now has back to the first map. For every other pair, the program compares the
+items of the two maps by name (`--by-name`). The following must be true after each plan:
 
-Before that the recipe makes a plan in FOLDER from end to end, and then the plan that takes it back.
+- The monitor has accepted each command. These are the commands that `--to` prints with `--as-ceph`.
+- The monitor's map, as `crushtool -d` prints it, has exactly the differences that the plan reports as remaining. The
+  plain model finds the differences.
+- If the plan reports no difference, `ceph osd crush dump` shows the items of the wanted map, with the wanted types,
+  places and classes. Each device has the wanted id, and rules take the wanted buckets. Each device's weight differs
+  from the wanted weight by at most one unit (a 65536th of 1.0), because Ceph rounds weights down and crushedit rounds
+  to the nearest unit.
 
-Told are commands by kind, and which differences stayed. The status is 1 where a command is refused, or the map is another.
-Devices are called `osd.N`: a monitor gives no other one a class. What a random map has else is as in `against_monitor.py`.
+With --json, the plan is the document that `--to` prints with `--json`. The test sends each command of the document
+to the monitor exactly as it is. Without --json, the test translates the words of each command in the same way as the
+program `ceph`, with the descriptions of commands that the monitor sends.
+
+Before the pairs, the test runs the recipe `crushedit-recipe --to` in FOLDER, and the command that the recipe prints
+to set the new map. Then it undoes this change with a second run of the recipe, on the commands of the file `back` that
+the first run has written.
+
+The test prints how many commands of each kind the monitor got, and which differences remained. The status is 1 if
+the monitor refuses a command, or if a map isn't as it should be. All devices have names of the form `osd.N`, because a
+monitor gives no other device a class. In all other respects, the random maps are as in `against_monitor.py`.
 """
 
 import collections
@@ -34,10 +48,13 @@ from planned import stays
 from plans import after_script
 from reading import read_map
 
-# The first six are those of the maps, of which crushtool -c takes at most 100; Ceph cuts four of them otherwise than they are rounded.
+# The weights of random maps are the first six, because `crushtool -c` accepts no weight above 100. Random commands use
+# all of these weights. Ceph rounds 1.81898 and 1.00001 down to another number of units than crushedit, which rounds to
+# the nearest.
 WEIGHTS = ["0", "1", "3.63869", "2.5", "1.81898", "0.333", "14.55269", "100", "1.00001", "5000", "40000"]
 SCRIPTED, UNLIKE = "pairs made by a script", "unlike pairs"
-# Sends commands, a line of JSON each, as they are.
+# A program that runs in the monitor's folder. It reads commands, one JSON object on each line, and sends each of them
+# to the monitor unchanged. For each command, it prints a line with the status and the message of the monitor.
 SENDER = """
 import json, sys, rados
 cluster = rados.Rados(conffile="/etc/ceph/ceph.conf")
@@ -46,7 +63,8 @@ for line in sys.stdin:
     status, _, told = cluster.mon_command(line.strip(), b"", timeout=30)
     print(json.dumps([status, told]), flush=True)
 """
-# What a cluster's map is to become: a disk changes its host and its class, and a rack comes.
+# The commands that lead to the wanted map of the recipe: osd.2 gets another class and another host. A new rack gets a
+# new host with the new device osd.3.
 WANTED = """%operator alice
 rm-device-class osd.2
 set-device-class ssd osd.2
@@ -58,17 +76,22 @@ add osd.3 3.63869 host=node0009 rack=rack9
 
 
 def placed(devices, buckets):
-    """Of each item its bucket, if it has one."""
+    """Returns the bucket that holds each item, or None for an item that no bucket holds."""
     holders = {kid: name for name, (_, _, _, kids) in buckets.items() for kid, _ in kids}
     return {name: holders.get(name) for name in [*devices, *buckets]}
 
 
 def weights(devices, buckets):
+    """Returns the weight in units of each device that a bucket holds."""
     return {kid: weight for _, _, _, kids in buckets.values() for kid, weight in kids if kid in devices}
 
 
 def is_wanted(monitor, wanted):
-    """Whether the monitor's own dump is the wanted map by names: types, places, classes, and weights within a unit."""
+    """Returns whether `ceph osd crush dump` shows the wanted map.
+
+    Compares the names of items, their places, types and classes, the ids of devices, the weights of devices (which may
+    differ by one unit), and the buckets that rules take.
+    """
     devices, buckets, rules = monitor.items()
     holds, due = weights(devices, buckets), {name: wanted.items[name]["weight"] for name in wanted.items
                                              if wanted.is_device(name) and wanted.parent(name)}
@@ -81,13 +104,17 @@ def is_wanted(monitor, wanted):
 
 
 class Lines:
-    """Plans of Ceph's own commands, of which the monitor is asked each by its words."""
+    """Plans that are printed as Ceph's own commands (`--as-ceph`), and sent to the monitor by the words of each
+    command."""
 
     def __init__(self, monitor):
         self.monitor = monitor
 
     def plan(self, edited_to):
-        """The commands, and the differences that are told to stay."""
+        """Returns the commands of a plan, and the lines of the differences that the plan reports as remaining.
+
+        `edited_to` runs the program with `--to` and the option that selects the form of the plan.
+        """
         lines = edited_to("--as-ceph").splitlines()
         commands = [line for line in lines if not line.startswith("#")]
         if lines[0] != f"# {len(commands)} commands":
@@ -97,14 +124,14 @@ class Lines:
         return commands, [line.removeprefix("# ") for line in rest]
 
     def make(self, command):
-        """The command's word, its status, and what the monitor tells."""
+        """Sends a command to the monitor. Returns the kind of the command, its status, and the monitor's message."""
         words = command.split()[1:]
         status, _, why = self.monitor.ask(*words)
         return words[2], status, why
 
 
 class Documents:
-    """Plans as documents, whose commands are sent as they stand there."""
+    """Plans that are printed as JSON documents, and whose commands are sent to the monitor unchanged."""
 
     def __init__(self, monitor):
         self.server = subprocess.Popen(["chroot", monitor.root, "python3", "-c", SENDER], stdin=subprocess.PIPE,
@@ -124,7 +151,12 @@ class Documents:
 
 
 def make_plan(program, monitor, text, wanted, way, identity, counts, kind):
-    """The plan from the monitor's map, of this text, to the wanted text, made by the monitor: its text then."""
+    """Sends the monitor a plan from its map to the wanted map, and returns the text of the monitor's map afterwards.
+
+    `text` is the text of the monitor's map, and `wanted` is the text of the wanted map. `way` is a Lines or a
+    Documents. Raises Failed if the monitor refuses a command, or if its map isn't as the plan says. Counts the plan,
+    its commands and the differences that remain in `counts`.
+    """
     place = pathlib.Path(monitor.root, "mon", "wanted")
     place.write_text(wanted)
     commands, told = way.plan(lambda form: edited(program, text, "", "--to", str(place), form, *identity))
@@ -145,12 +177,12 @@ def make_plan(program, monitor, text, wanted, way, identity, counts, kind):
 
 
 def monitors_text(dice):
-    """A random map whose devices are all called `osd.N`."""
+    """Returns the text of a random map whose devices all have names of the form `osd.N`."""
     return re.sub(r"\bdisk\b", "osd.7", random_text(dice))
 
 
 def trial(program, monitor, way, pairs, seed, counts):
-    """How many pairs went wrong."""
+    """Runs both plans of each pair, prints the pairs that fail, and returns how many failed."""
     wrong = 0
     for index in range(pairs):
         dice = chance.Dice(f"{seed} {index}")
@@ -169,7 +201,11 @@ def trial(program, monitor, way, pairs, seed, counts):
 
 
 def recipe(program, monitor):
-    """The recipe's plan to a wanted map, and the one back, each set by the command that it shows."""
+    """Changes the monitor's map by `crushedit-recipe --to`, and then undoes this change with the recipe's file `back`.
+
+    Each time, the function runs the command that the recipe prints to set the new map. Raises Failed if the monitor's
+    map then differs from the expected map.
+    """
     root = monitor.root
     for source, name in ((program, "crushedit"), (TOP / "bin/crushedit-recipe", "crushedit-recipe")):
         shutil.copy(source, os.path.join(root, "usr/local/bin", name))
@@ -188,6 +224,7 @@ def recipe(program, monitor):
 
 
 def told(counts):
+    """Prints how many plans and commands there were in each direction, and which differences remained."""
     for way, count in counts.items():
         commands = count["commands"]
         print(f"{way}: {sum(count['plans'].values())} plans of {sum(commands.values())} commands, of which "

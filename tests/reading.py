@@ -1,7 +1,8 @@
-"""Reads texts of maps and jobs into the plain model of `model.py`, or tells what is wrong with them.
+"""Reads the texts of maps and jobs into the plain model of `model.py`, and finds the faults in these texts.
 
-It is written from the grammar of docs/user/FORMATS.md and the tables of docs/user/RULES.md alone: word by word, and at each
-word the fault of least number among those that the word has.
+The module is a part of the plain model, a second implementation of crushedit with which the tests compare the program.
+It was written only from the grammar in docs/user/FORMATS.md and the tables in docs/user/RULES.md. It reads the text of
+a map word by word. If a word has several faults, the module reports the fault that has the lowest number in RULES.md.
 """
 
 import re
@@ -10,8 +11,10 @@ from explained import fault_text
 from looking import ending
 from model import MOST, Map, number_of, units_of
 
-# What a text has in place of a word: nothing more, or a byte or a word that no text may have.
+# The function `words` ends its list with one of these: END if the text ends there, BAD if a byte isn't allowed there
+# or a word is too long.
 END, BAD = "", "?"
+# The faults of a text, in the order of their numbers.
 FAULTS = ("BadWord", "Ended", "Unexpected", "BadNumber", "BadWeight", "DuplicateId", "DuplicateName", "UnknownType",
           "UnknownItem", "SecondParent", "OtherAlgorithm", "LeftOut", "UnknownBucketInRule", "TooMany", "SumTooLarge")
 RESERVED = ("tunable", "device", "type", "rule", "class", "choose_args")
@@ -23,7 +26,7 @@ LONGEST_NAME, LONGEST_JOB, LARGEST = 255, 16777216, 2**31 - 1
 NUMBER, NEGATIVE, SIGNED = "[0-9]{1,10}", "-[0-9]{1,10}", "-?[0-9]{1,10}"
 WEIGHT = r"[0-9]{1,10}(\.[0-9]{1,18})?"
 NAME = "[A-Za-z0-9._-]{1,255}"
-# What stands behind the first word of a command; the location is any number of pairs.
+# The words that must follow the first word of each command. A location consists of up to MOST_PAIRS pairs TYPE=NAME.
 COMMANDS = {
     "add": ("device", "weight", "location"), "set": ("device", "weight", "location"),
     "create-or-move": ("device", "weight", "location"), "move": ("name", "location"),
@@ -35,11 +38,15 @@ COMMANDS = {
 
 
 class Fault(Exception):
-    """What is wrong with a text or a job, as standard error is told."""
+    """A fault of a text or a job. Its message is what the program prints after `crushedit: ` on standard error."""
 
 
 def words(text):
-    """The words with their places, and behind them what stands in place of a word."""
+    """Returns the words of a text as pairs of a place and a word. The place is the number of bytes before the word.
+
+    The last pair has END in place of a word or, if the text has an invalid byte or a word that is too long, BAD. The
+    words after BAD are left out.
+    """
     found, at = [], 0
     while at < len(text):
         if text[at] in " \t\n\r":
@@ -57,19 +64,27 @@ def words(text):
 
 
 def number(word, form, least, most):
-    """The number in this range that a word of this form spells, or None."""
+    """Returns the number that a word spells, or None if the word doesn't have this form or the number isn't in the
+    range."""
     return int(word) if re.fullmatch(form, word) and least <= int(word) <= most else None
 
 
 def weight(word):
-    """The units that a word spells, or None."""
+    """Returns the weight that a word spells, in units (65536ths of 1.0). Returns None if the word isn't a weight, or
+    if a bucket can't weigh that much."""
     units = units_of(word) if re.fullmatch(WEIGHT, word) else MOST["bucket"] + 1
     return units if units <= MOST["bucket"] else None
 
 
 class Reader:
-    """The words that are left, the map so far, its held items, its total, and the weights that were replaced: of each
-    the bucket's name, the word that was written, and the sum."""
+    """Reads the text of a map, from its first word to its last.
+
+    `left` has the words that aren't read yet, the next one last. `map` is the map so far, and `held` has the names of
+    the items that a bucket holds. `total` is the weight of all devices in buckets, in units. `adjusted` has an entry
+    for each bucket whose written weight isn't the sum of its items' weights: the bucket's name, the written word, and
+    the sum in units. `is_behind` is true once a bucket or a rule has begun. After that, no tunable, device or type may
+    follow.
+    """
 
     def __init__(self, text):
         self.left = words(text)[::-1]
@@ -79,7 +94,11 @@ class Reader:
         return self.left[-1][1] == word
 
     def take(self, *faults):
-        """The next word, which has none of these faults: of those that it has the one of least number is told."""
+        """Takes the next word and returns it.
+
+        Each of `faults` is the name of a fault, and a function that says whether a word has this fault. If the word
+        has one of these faults, or is BAD or END, raises Fault with the fault that has the lowest number.
+        """
         place, word = self.left[-1]
         tests = dict([("BadWord", lambda w: w == BAD), ("Ended", lambda w: w == END), *faults])
         for name in sorted(tests, key=FAULTS.index):
@@ -89,21 +108,25 @@ class Reader:
         return word
 
     def key(self, *keys):
+        """Takes the next word, which must be one of these words, and returns it."""
         return self.take(("Unexpected", lambda w: w not in keys))
 
     def skip(self, key):
-        """Takes the next word where it is this, and answers whether it is."""
+        """Takes the next word if it is this word, and returns whether it is."""
         return self.is_next(key) and bool(self.take())
 
     def plain(self, *faults):
-        """Any word but a brace."""
+        """Takes the next word, which may be any word except for a brace, and returns it."""
         return self.take(("Unexpected", lambda w: w in "{}"), *faults)
 
     def number(self, form, least, most, used=()):
+        """Takes the next word, which must be a number of this form and in this range, and returns the number. It must
+        not be one of the used numbers."""
         return int(self.plain(("BadNumber", lambda w: number(w, form, least, most) is None),
                               ("DuplicateId", lambda w: int(w) in used)))
 
     def count(self, word):
+        """Returns how many statements the map has so far of the kind that begins with this word."""
         buckets = sum(item["id"] < 0 for item in self.map.items.values())
         return {"tunable": len(self.map.tunables), "device": len(self.map.items) - buckets,
                 "type": len(self.map.types), "rule": len(self.map.rules)}.get(word, buckets)
@@ -163,7 +186,10 @@ class Reader:
         self.map.items[name] = bucket
 
     def item(self, kids, sum):
-        """An item of the bucket that holds these and weighs so much: what it weighs itself."""
+        """Reads an item of a bucket, after the word `item`, and returns the item's weight in units.
+
+        `kids` has the bucket's items so far, and gets the new item. `sum` is the weight of the items so far, in units.
+        """
 
         def own(name, written):
             return written if self.map.is_device(name) else self.map.weight(name)
@@ -211,7 +237,11 @@ class Reader:
         self.map.rules.append({"name": name, "id": number, "lines": lines + steps + [("}", None)]})
 
     def step(self):
-        """A step as it is printed, and the id of the bucket that it takes, whose name goes into the braces."""
+        """Reads a step of a rule, after the word `step`.
+
+        Returns the line of the step as it is printed, and the id of the bucket that the step takes, or None. The line
+        of a step `take` has `{}` in place of the bucket's name.
+        """
         first = self.take(
             ("Unexpected", lambda w: w not in ("take", "choose", "chooseleaf", "choosemsr", "emit")
              and not w.startswith("set_")),
@@ -231,13 +261,17 @@ class Reader:
 
 
 def read_map(text):
-    """The map that a text spells, and the written weights of buckets that aren't the sums."""
+    """Returns the map of a text, and the weights of buckets in the text that aren't the sums of the items' weights.
+
+    The second value has the form of `Reader.adjusted`. Raises Fault if the text has a fault.
+    """
     reader = Reader(text)
     reader.statements()
     return reader.map, reader.adjusted
 
 
 def is_of(kind, word):
+    """Returns whether a word of a command is of this kind: a name, a weight, a device, or a pair TYPE=NAME."""
     if kind == "weight":
         return weight(word) is not None
     if kind == "device":
@@ -246,7 +280,7 @@ def is_of(kind, word):
 
 
 def is_command(words):
-    """Whether the words behind a command's first are those that it has."""
+    """Returns whether the words after the first word of a command are of the kinds that COMMANDS requires."""
     kinds = list(COMMANDS[words[0]])
     if "location" in kinds:
         pairs = len(words) - len(kinds)
@@ -257,13 +291,19 @@ def is_command(words):
 
 
 def is_guard(words):
-    """Whether the words behind `begin` are none, or `at` and a number of changes that a history can have."""
+    """Returns whether a line `begin` has no more words, or has `at` and a number of at most MOST_ENTRIES changes."""
     return not words[1:] or (words[1] == "at" and len(words) == 3 and bool(re.fullmatch("0*[0-9]{1,5}", words[2]))
                              and int(words[2][-5:]) <= MOST_ENTRIES)
 
 
 def read_scripts(lines, before):
-    """The scripts of the sections, in order: pairs of an operator and its calls. `before` lines are the map's."""
+    """Returns the scripts of a job in their order. Each is a pair of the operator's name and the list of its calls.
+
+    `lines` are the lines of the job from the first line that begins with `%`, and `before` is the number of lines
+    before that line. A call is a pair of its kind and its commands, each as a list of words. The kind is `one` for a
+    command that is in no batch, `batch` for a batch, and the number N for a batch that begins with `begin at N`.
+    Raises Fault if a line has a fault.
+    """
     scripts, batch, begun, kind, calls = [], None, 0, "batch", 0
     for place, line in enumerate(lines, before + 1):
         line = line[:-1] if line.endswith("\r") else line
@@ -306,7 +346,8 @@ def read_scripts(lines, before):
 
 
 def read_job(text):
-    """The map of a job, the weights of it that were replaced, and the scripts."""
+    """Returns the map of a job, the weights of buckets that aren't the sums (as `read_map` returns them), and the
+    scripts."""
     if len(text) > LONGEST_JOB:
         raise Fault("TooLong")
     lines = text.split("\n")
@@ -317,14 +358,23 @@ def read_job(text):
 
 
 def begins_section(script):
-    """Whether the first line that has more than blanks and a comment begins with `%`."""
+    """Returns whether the first line of a script begins with `%`. Empty lines and lines with only a comment don't
+    count."""
     lines = (line for line in script.split("\n") if line.split("#")[0].strip(" \t\r"))
     return next(lines, "").startswith("%")
 
 
 def joined(text, name, scripts):
-    """The bytes of a job with the scripts of files behind it, pairs of a name and bytes; and its files, as `line_told`
-    takes them, of which the first is called `name`."""
+    """Appends script files to the text of a job. Returns the whole text, and the list of its files.
+
+    `scripts` are pairs of a file's name and its text. A script that doesn't begin with a line `%operator` gets such a
+    line. The operator's name is then the file's name without its folder, up to its first dot. If this can't be the
+    name of an operator, the added line has no name, which is a fault.
+
+    Each file of the list has three values: the file's name, the number of its first line in the whole text, and the
+    number of that line in the file itself, which is 0 for an added line `%operator`. The first file is the job's own
+    file, which is called `name`.
+    """
     files = [(name, 1, 1)]
     for script, own in scripts:
         text += "" if text.endswith("\n") else "\n"
@@ -337,9 +387,12 @@ def joined(text, name, scripts):
 
 
 def outcome(text, words=(), since=None, name="", scripts=()):
-    """The status of a job that is run in turn, what is printed, and what standard error is told, with these words of
-    the command line, the bytes of the file of `--since`, which is called MAP, the name of the job's file, which is
-    told where there are scripts of files, and these, pairs of a name and bytes."""
+    """Returns the status, the standard output and the standard error that a run with `--in-turn` should have.
+
+    `text` is the text of the job, and `words` are the words of the command line. `since` is the text of the file of
+    `--since`, which messages call MAP. `scripts` are pairs of the name and the text of a script file. `name` is the
+    name of the job's file. Messages contain this name only if there are script files.
+    """
     explain = "--explain" in words
     text, files = joined(text, name if scripts else "", scripts)
     try:
@@ -355,7 +408,7 @@ def outcome(text, words=(), since=None, name="", scripts=()):
 
 
 def read_since(text):
-    """The map of a text without scripts."""
+    """Returns the map of a text that has no scripts. Raises Fault if the text is too long or has a fault."""
     if len(text) > LONGEST_JOB:
         raise Fault("TooLong")
     return read_map(text)[0]
