@@ -1,10 +1,17 @@
-"""Looks whether a call of the editor that waits for nobody could come to the lock: that must not compile.
+"""Checks that the calls which only read from the editor can't acquire the editor's lock, so they never wait for it.
 
     python3 tests/readings_hold_no_lock.py
 
-All of TRIES are made in a copy of the crate crush_editor, and the compiler has to say of each what stands beside it, of
-sources alone. No contract is asked: a reader without lock has none, and the editor's is private to its state lock. Ends with status 1
-where one is taken, or is refused for another reason.
+The script copies the sources of all crates. In the copy of the crate crush_editor, it puts an attempt to acquire the
+lock into each of these calls. Then it compiles a program that uses this crate. The compiler must reject each attempt
+with the message that the table TRIES has for the attempt. The messages say that `LockFreeReader` has no lock, that the
+editor's lock is a private field of `StateLock`, and that `StateLock` has no method `try_lock`. Only the compiler
+checks this, and contracts play no part in it.
+
+The script needs the toolchain and the sources, and nothing has to be proved. It prints a line for each attempt that
+the compiler doesn't reject with the expected message, followed by all messages of the compiler. The last line has the
+number of rejected attempts. The status is 1 if an attempt isn't rejected with its message, or if a line of TRIES isn't
+in the sources exactly once.
 """
 
 import pathlib
@@ -16,13 +23,15 @@ import tempfile
 
 TOP = pathlib.Path(__file__).resolve().parent.parent
 CRATE = "crush_editor"
-# A program that stands on it, and on as little else as any.
+# A small program that uses this crate.
 PROGRAM = "crush_two_operators"
 
-# A file, the line before which the lock is tried, how it is tried, and what the compiler has to say.
+# The messages with which the compiler must reject the attempts.
 NO_FIELD = "no field `state` on type `LockFreeReader<N>`"
 PRIVATE = "field `state` of struct `StateLock` is private"
 NO_METHOD = "no method named `try_lock` found for type `StateLock<N, O>`"
+# The attempts. Each has a file, the line of this file before which the attempt is inserted, an expression that tries
+# to acquire the lock, and the message with which the compiler must reject this expression.
 TRIES = [
     ("lock_free_reader.rt", "        self.gauge.read(&mut seat.reader)", "self.state.try_lock()", NO_FIELD),
     ("lock_free_reader.rt", "        let note = self.gauge.note(&mut seat.reader);", "self.state.try_lock()", NO_FIELD),
@@ -34,7 +43,8 @@ TRIES = [
 
 
 def copy_of(folder):
-    """A copy of the repository's crates, of their sources alone."""
+    """Copies the crates to a folder, without what was built, and returns the folder with the sources of
+    crush_editor."""
     for name in ("crates.txt", "HANDLES"):
         shutil.copy(TOP / name, folder / name)
     shutil.copytree(TOP / "crates", folder / "crates", ignore=shutil.ignore_patterns("out"))
@@ -42,7 +52,10 @@ def copy_of(folder):
 
 
 def tried_in(source, file, line, tried):
-    """Tries the lock before the one line of a file that is this."""
+    """Inserts an attempt to acquire the lock before a line of a file, which must have exactly one such line.
+
+    The inserted loop would repeat the expression `tried` until it has acquired the lock.
+    """
     text = (source / file).read_text()
     if text.count(line + "\n") != 1:
         sys.exit(f"{file} has no single line {line.strip()}")
@@ -54,7 +67,8 @@ def main():
         source = copy_of(pathlib.Path(folder))
         for file, line, tried, _ in TRIES:
             tried_in(source, file, line, tried)
-        # Sources are read without a proof; what doesn't compile is told before anything runs.
+        # `rt try` compiles the program without proofs. If the sources don't compile, it prints the errors and runs
+        # nothing.
         run = subprocess.run(["rt", "try"], cwd=source.parent.parent / PROGRAM, stdin=subprocess.DEVNULL, capture_output=True, text=True)
         taken = 0
         for file, line, tried, due in TRIES:

@@ -1,11 +1,17 @@
-"""Tries the recipe on a monitor of Ceph: each of its guards, and whether what it says is what Ceph then does.
+"""Runs the recipe `crushedit-recipe` on a monitor of Ceph, and compares what the recipe says with what Ceph then does.
 
     python3 tests/recipe_by_monitor.py crates/crushedit/out/crushedit FOLDER [RECIPE]
 
-FOLDER has a monitor that `tests/monitor.sh start` has started. If `tests/monitor.sh osds` has started OSDs too, the recipe
-says which PGs move, sets the map, and is compared with what the cluster has moved. RECIPE is another copy of
-bin/crushedit-recipe. Prints a line for each trial, and ends with status 1 if one fails. What each command of the recipe prints
-in a trial that fails is printed too.
+Each test case is a function below. Some test cases give the recipe a map or a command for which one of its checks must
+stop the recipe. Others set the new map with the command that the recipe prints, and then look at the monitor's map. If
+OSDs (the server processes of disks) run, one test case compares the placement groups (PGs, the parts of the data) that
+the recipe has announced with those that have moved.
+
+The script needs root, and a monitor that `tests/monitor.sh start` has started in FOLDER. The OSDs run if
+`tests/monitor.sh osds` has started them too. RECIPE is the path of another copy of bin/crushedit-recipe.
+
+Prints a line for each test case. If a test case fails, the line says why, and the output of the recipe often follows.
+The status is 1 if a test case fails.
 """
 
 import json
@@ -36,7 +42,12 @@ DISKS = 300
 
 
 def map_of(hosts, rules, kind="hdd", above="root default"):
-    """The text of a map: hosts, each a list of devices and weights, in a bucket, perhaps below another root."""
+    """Returns the text of a map with a bucket of hosts, and with rules.
+
+    Each of `hosts` is a list of pairs of a device's number and its weight. Each of `rules` is a pair of a rule's name
+    and the words after its `step take`. `kind` is the class of all devices. `above` is the type and the name of the
+    bucket that holds the hosts. If this type isn't `root`, a root `default` holds this bucket.
+    """
     devices = sorted((number for host in hosts for number, _ in host))
     text = HEAD + "".join(f"device {number} osd.{number} class {kind}\n" for number in devices) + TYPES
     for index, host in enumerate(hosts):
@@ -50,7 +61,7 @@ def map_of(hosts, rules, kind="hdd", above="root default"):
 
 
 class Trial:
-    """The recipe in the monitor's folder."""
+    """Runs the recipe in the monitor's folder, into which it copies the program and the recipe."""
 
     def __init__(self, program, monitor, recipe):
         self.monitor, self.root, self.count = monitor, monitor.root, 0
@@ -59,14 +70,22 @@ class Trial:
             os.chmod(os.path.join(self.root, "usr/local/bin", name), 0o755)
 
     def run(self, words, before="", folder="/mon"):
-        """The status of a command of a shell, and what it prints."""
+        """Runs a command of a shell in the monitor's folder. Returns its status, and what it prints on both streams.
+
+        `before` is put before the command, for example to set a variable. `folder` is the working folder of the
+        command.
+        """
         mounted = ["unshare", "--mount", "sh", "-c", 'mount -t proc proc "$0/proc" && exec chroot "$0" "$@"', self.root]
         ran = subprocess.run([*mounted, "sh", "-c", f"cd {folder}; {before}{words}"], stdin=subprocess.DEVNULL,
                              stdout=subprocess.PIPE, stderr=subprocess.STDOUT, text=True)
         return ran.returncode, ran.stdout
 
     def recipe(self, commands, status=0, told="", before=""):
-        """What the recipe prints of these commands."""
+        """Runs the recipe on these commands and returns what it prints.
+
+        Raises Failed if the recipe ends with another status, if it doesn't print the text `told`, or if it prints a
+        command that sets a map although its status isn't 0. `before` is put before the command line of the recipe.
+        """
         self.count += 1
         pathlib.Path(self.root, "mon/commands").write_text("".join(f"{line}\n" for line in commands))
         shutil.rmtree(os.path.join(self.root, "mon/day"), ignore_errors=True)
@@ -76,12 +95,16 @@ class Trial:
         return printed
 
     def set(self, printed, index=0):
-        """Runs the command that sets the map, or with the index 1 the one that goes back; its status and what it prints."""
+        """Runs a command that the recipe has printed. Returns the status of the command and what it prints.
+
+        With the index 0, this is the command that sets the new map. With the index 1, it is the command that goes back
+        to the old map.
+        """
         lines = [line for line in printed.splitlines() if "osd setcrushmap" in line]
         return self.run(lines[index])
 
     def edit(self, *commands):
-        """Runs the recipe, and sets its map."""
+        """Runs the recipe on these commands, sets the new map, and returns what the recipe prints."""
         printed = self.recipe(commands)
         status, told = self.set(printed)
         if status:
@@ -89,16 +112,21 @@ class Trial:
         return printed
 
     def take(self, text):
+        """Gives the monitor the map of a text."""
         self.monitor.take(text)
 
     def weights(self):
-        """The units of each device, as the monitor has them."""
+        """Returns the weight that the monitor's map has for each device, in units (65536ths of 1.0), by the device's
+        id."""
         dump = json.loads(self.monitor.asked("osd", "crush", "dump"))
         return {item["id"]: item["weight"] for bucket in dump["buckets"] if "~" not in bucket["name"]
                 for item in bucket["items"] if item["id"] >= 0}
 
     def taken(self):
-        """What each rule takes: its id and its name."""
+        """Returns the id and the name of what each step `take` of the monitor's rules takes.
+
+        This is a bucket, or the class tree of a bucket (Ceph's copy of the bucket for a device class).
+        """
         dump = json.loads(self.monitor.asked("osd", "crush", "dump"))
         return [(step["item"], step["item_name"]) for rule in dump["rules"] for step in rule["steps"] if step["op"] == "take"]
 
@@ -108,14 +136,20 @@ TWO_RULES = [("all", "default"), ("disks", "default class hdd")]
 
 
 def missing_device(trial):
-    """A device that the cluster lacks stops the recipe; one that it has doesn't."""
+    """Checks that the recipe stops if the cluster lacks a new device of the map, and doesn't stop if the cluster has
+    it."""
     trial.take(map_of(SMALL, TWO_RULES))
     trial.recipe(["add osd.444 1.0 host=node0"], 1, "the cluster has no osd.444. ")
     trial.recipe(["add osd.6 1.0 host=node0", "set-device-class hdd osd.6"])
 
 
 def old_names(trial):
-    """Class trees with old names stop the recipe, until the command that it shows has been run."""
+    """Checks that the recipe stops if class trees have old names, and goes on after the command that it then prints.
+
+    If somebody renames a bucket with Ceph's own command `rename-bucket`, the bucket's class trees keep their old
+    names. In the second half of the test case, two buckets have exchanged their names. So the old name of the class
+    tree looks like the name of the other bucket's class tree.
+    """
     trial.take(map_of(SMALL, TWO_RULES))
     trial.monitor.asked("osd", "crush", "rename-bucket", "default", "top")
     printed = trial.recipe(["reweight osd.0 2"], 1, "rule disks takes top~hdd, which the map calls default~hdd\n")
@@ -132,7 +166,7 @@ def old_names(trial):
 
 
 def names_that_the_recipe_sets(trial):
-    """After renames by the recipe the class trees have their new names, and the next job is taken."""
+    """Checks that class trees have their new names after the recipe has renamed buckets, and that a next run works."""
     trial.take(map_of(SMALL, TWO_RULES))
     before = trial.taken()
     trial.edit("rename-bucket default top")
@@ -144,7 +178,10 @@ def names_that_the_recipe_sets(trial):
 
 
 def exact_weights(trial):
-    """Of a map of 300 disks no weight is off after three rounds, where crushtool alone cuts."""
+    """Checks that three runs of the recipe change no weight of 300 devices except for the weight that they set.
+
+    Also prints how many of these weights would change if only `crushtool` decompiled and compiled the map once.
+    """
     dice = random.Random(1)
     trial.monitor.asked("osd", "setmaxosd", "400")
     for decimals in (4, 5):
@@ -166,7 +203,10 @@ def exact_weights(trial):
 
 
 def guarded_way_back(trial):
-    """The way back is byte for byte, and refused if somebody has changed the map in between."""
+    """Checks that the command that goes back restores the old map byte for byte.
+
+    Ceph must refuse this command if somebody has changed the map since the recipe's new map was set.
+    """
     trial.take(map_of(SMALL, TWO_RULES))
     kept = trial.monitor.asked("osd", "getcrushmap")
     printed = trial.edit("reweight osd.0 2")
@@ -181,7 +221,8 @@ def guarded_way_back(trial):
 
 
 def contained(trial):
-    """A `ceph` that doesn't see the recipe's folder, as in a container."""
+    """Checks that the recipe works with a `ceph` that can't find the recipe's folder, such as a `ceph` in a
+    container."""
     trial.take(map_of(SMALL, TWO_RULES))
     place = pathlib.Path(trial.root, "usr/local/bin/contained")
     place.write_text('#!/bin/sh\ncd /proc && exec ceph "$@"\n')
@@ -193,7 +234,7 @@ def contained(trial):
 
 
 def negative_sums(trial):
-    """A rack of 33,000 TiB, whose weight crushtool prints as a negative number."""
+    """Checks an edit of a map with a rack of 33,000 TiB, whose weight `crushtool -d` prints as a negative number."""
     trial.monitor.asked("osd", "setmaxosd", "400")
     hosts = [[(10 * host + disk, "100.0") for disk in range(10)] for host in range(33)]
     trial.take(map_of(hosts, TWO_RULES, above="rack rack0"))
@@ -207,7 +248,10 @@ def negative_sums(trial):
 
 
 def taken_root(trial):
-    """A root that a rule takes is removed after its rule has gone, by the commands that the message shows."""
+    """Checks that the recipe doesn't remove a root that a rule takes, and removes it when the rule is gone.
+
+    The test case removes the rule with commands that the recipe's message shows.
+    """
     trial.take(map_of(SMALL, TWO_RULES))
     trial.edit("add osd.6 1 host=node6 root=old")
     trial.monitor.asked("osd", "crush", "rule", "create-replicated", "olds", "old", "host")
@@ -223,13 +267,13 @@ def taken_root(trial):
 
 
 def new_class(trial):
-    """A class that no rule takes is shown."""
+    """Checks that the recipe points out a new class that no rule takes."""
     trial.take(map_of(SMALL, TWO_RULES))
     trial.recipe(["rm-device-class osd.0", "set-device-class sdd osd.0"], told="The class sdd is new, and no rule takes it.")
 
 
 def placed(trial):
-    """The devices of each PG, as the OSDs have them."""
+    """Returns the devices of each PG, as the cluster reports them after five seconds."""
     time.sleep(5)
     status, printed = trial.run("ceph pg dump pgs_brief -f json 2>/dev/null")
     if status:
@@ -239,7 +283,10 @@ def placed(trial):
 
 
 def what_moves(trial):
-    """What the recipe says of each pool is what moves, and PGs that get fewer devices stop it."""
+    """Checks that exactly those PGs move that the recipe announces for each pool.
+
+    Also checks that the recipe stops if PGs would get fewer devices than before.
+    """
     hosts = [[(2 * host, "1.81898"), (2 * host + 1, "1.81898")] for host in range(5)]
     trial.take(map_of(hosts, TWO_RULES))
     trial.run("ceph osd erasure-code-profile set four k=2 m=2 crush-failure-domain=host; "
@@ -262,6 +309,7 @@ def what_moves(trial):
 
 
 def has_osds(monitor):
+    """Returns whether the monitor reports at least one running OSD."""
     return json.loads(monitor.asked("osd", "stat"))["num_up_osds"] > 0
 
 
@@ -273,7 +321,8 @@ def main():
     monitor, failed = Monitor(root), 0
     trial = Trial(program, monitor, recipe)
     trials = [missing_device, old_names, names_that_the_recipe_sets, guarded_way_back, contained, taken_root, new_class]
-    # Without OSDs the map of 300 disks harms nothing; with pools its devices would lack.
+    # exact_weights and negative_sums set maps with about 300 devices that the cluster lacks. This does no harm if no
+    # OSDs run. On a cluster with pools, PGs would lack devices.
     trials += [what_moves] if has_osds(monitor) else [exact_weights, negative_sums]
     for each in trials:
         try:

@@ -1,10 +1,14 @@
 #!/usr/bin/env python3
-"""Tries bin/crushedit-recipe from end to end with the stand-ins of stand_ins.py in place of Ceph's tools.
+"""Tests the whole recipe bin/crushedit-recipe, with the stand-ins of stand_ins.py in place of Ceph's tools.
 
     python3 tests/recipe_test.py crates/crushedit/out/crushedit [RECIPE]
 
-RECIPE is another copy of the recipe, such as the one that was installed. The script of README.md is tried too, if the page
-is there. Prints a line for each trial, and ends with status 1 if one fails.
+Most test cases run the recipe in a new folder, and check its status, its messages and its files. Some of them also run
+the command that the recipe prints. The other test cases run the script on the page README.md, if the page is there,
+and compare the weights that crushedit prints with those that are compiled from them.
+
+RECIPE is the path of another copy of the recipe, such as an installed copy. No test case uses a cluster or Ceph's own
+tools. The script prints a line for each test case. The status is 1 if a test case fails.
 """
 import json
 import os
@@ -22,9 +26,10 @@ import unittest
 sys.dont_write_bytecode = True
 HERE = pathlib.Path(__file__).resolve().parent
 MAP = (HERE.parent / "examples/example.txt").read_text()
+# How the printed commands end that set the new map, and that go back to the old map.
 SET = " osd setcrushmap -i - {} < {}/new.bin\n"
 BACK = " osd setcrushmap -i - {} < {}/map.bin\n"
-# A map with a class, whose root a rule takes with it.
+# MAP with a device of the class hdd. The rule of this map takes the root `default` with this class.
 CLASSES = MAP.replace("osd.0\ndevice 1 osd.1\n", "osd.0 class hdd\ndevice 1 osd.1\n").replace(
     "take default", "take default class hdd").replace("id -1\t", "id -1\n\tid -11 class hdd\t").replace(
         "id -2\t", "id -2\n\tid -12 class hdd\t").replace("id -3\t", "id -3\n\tid -13 class hdd\t")
@@ -33,7 +38,7 @@ PROGRAM = RECIPE = None
 
 
 class Trial(unittest.TestCase):
-    """A folder with the stand-ins, in which the recipe is run."""
+    """A test case with a temporary folder, which has the stand-ins, and in which the recipe runs."""
 
     def setUp(self):
         temporary = tempfile.TemporaryDirectory()
@@ -51,15 +56,16 @@ class Trial(unittest.TestCase):
         self.folder = self.here / "folder"
         self.environment = {**os.environ, **{name.upper(): str(self.tools / name) for name in
                                              ("ceph", "crushtool", "osdmaptool", "crushedit")}}
-        # Each size is two more runs of crushtool; what is tried by default has trials of its own.
+        # For each of these sizes of pools, the recipe runs crushtool twice. Test cases that delete REPLICAS test the
+        # sizes that the recipe tries by default.
         self.environment["REPLICAS"] = "2 3"
 
     def put(self, name, text):
-        """Gives the stand-ins a file."""
+        """Writes a file that the stand-ins read."""
         (self.tools / name).write_text(text)
 
     def run_words(self, *words, **how):
-        """Runs the recipe with these words in the trial's folder."""
+        """Runs the recipe with these words in the test case's folder, and returns what it prints on both streams."""
         how = {"timeout": 60, "cwd": str(self.here), "env": self.environment, **how}
         ended = subprocess.run([str(RECIPE), *map(str, words)], stdin=subprocess.DEVNULL, stdout=subprocess.PIPE,
                                stderr=subprocess.PIPE, **how)
@@ -67,17 +73,23 @@ class Trial(unittest.TestCase):
         return self.out + self.told
 
     def try_commands(self, commands, status=0, words=None):
-        """Runs the recipe with these commands, and looks at its status and what its folder has then."""
+        """Runs the recipe on these commands, makes the checks of `check`, and returns what the recipe prints."""
         path = self.here / "commands"
         path.write_bytes(commands if isinstance(commands, bytes) else commands.encode())
         return self.check(status, words or (path, self.folder))
 
     def try_wanted(self, text, status=0):
-        """Runs the recipe with --to and a text."""
+        """Runs the recipe with --to and this text of a map, makes the checks of `check`, and returns what the recipe
+        prints."""
         (self.here / "wanted").write_text(text)
         return self.check(status, ("--to", self.here / "wanted", self.folder))
 
     def check(self, status, words):
+        """Runs the recipe with these words, checks how it ends, and returns what it prints.
+
+        The status must be this one. If the recipe fails, it must print no command that sets a map, and leave no
+        folder. It may ask Ceph only for what the stand-in for `ceph` answers without a note in the file `asked`.
+        """
         printed = self.run_words(*words)
         self.assertEqual(self.status, status, printed)
         if status:
@@ -87,14 +99,17 @@ class Trial(unittest.TestCase):
         return printed
 
     def run_shown(self, printed, version):
-        """Runs the command with this version that was printed, and returns what Ceph was asked and given."""
+        """Runs the printed command that sets a map if the cluster's map has this version.
+
+        Returns the words and the standard input that the stand-in for `ceph` got.
+        """
         command = next(line for line in printed.splitlines() if " - {} < ".format(version) in line)
         subprocess.run(["sh", "-c", command], cwd=str(self.here), check=True, env=self.environment)
         return (self.tools / "asked").read_text(), (self.tools / "given").read_text()
 
 
 class Edits(Trial):
-    """What is shown of a job that is right."""
+    """What the recipe prints and writes if the commands are right."""
 
     def test_a_weight_is_set(self):
         printed = self.try_commands("reweight osd.2 1.0\n")
@@ -188,7 +203,7 @@ class Edits(Trial):
 
 
 class Refusals(Trial):
-    """What stops before there is a new map."""
+    """Faults for which the recipe stops before there is a new map."""
 
     def test_refused_command(self):
         printed = self.try_commands("reweight osd.2 1.0\nreweight h1 1.0\n", 1)
@@ -271,7 +286,7 @@ class Refusals(Trial):
 
 
 class Harm(Trial):
-    """What would harm a cluster."""
+    """Maps that could harm a cluster. The recipe must stop, or the new map must have exactly the wanted changes."""
 
     def test_device_that_the_cluster_lacks(self):
         printed = self.try_commands("add osd.444 1.0 host=h1\n", 1)
@@ -322,7 +337,7 @@ class Harm(Trial):
 
 
 class Rules(Trial):
-    """Whether rules place as much as before, and what moves."""
+    """What the recipe does if rules would place fewer replicas than before, and what it says about data that moves."""
 
     def test_rule_that_places_nothing(self):
         del self.environment["REPLICAS"]
@@ -385,7 +400,7 @@ class Rules(Trial):
 
 
 class Ways(Trial):
-    """Wanted maps, and what takes a change back."""
+    """Wanted maps (--to), and the ways to undo a change."""
 
     def test_wanted_map_and_the_day_after(self):
         wanted = MAP.replace("osd.2 weight 0.50000", "osd.2 weight 1.00000")
@@ -460,7 +475,7 @@ class Ways(Trial):
 
 
 class Words(Trial):
-    """Words from outside."""
+    """Unusual names of files and folders, command lines, output streams and environments."""
 
     def test_names_like_options(self):
         for name in ("-n", "--version", "-h"):
@@ -540,10 +555,13 @@ class Words(Trial):
 
 
 class Exact(Trial):
-    """Weights that crushedit prints, as crushtool compiles them."""
+    """Weights that crushedit prints, and that the stand-in for crushtool compiles."""
 
     def compiled(self, weights, *words):
-        """The units that weights have after crushedit has printed them and crushtool has compiled them."""
+        """Returns the units that weights have after crushedit has printed them and the stand-in has compiled them.
+
+        `weights` are units (65536ths of 1.0), and `words` are the options of crushedit.
+        """
         lines = ["device {} osd.{}\n".format(number, number) for number in range(len(weights))] + ["type 1 host\n"]
         lines += ["host h1 { id -1 alg straw2\n"]
         lines += ["item osd.{} weight {:.5f}\n".format(number, units / 65536) for number, units in enumerate(weights)] + ["}\n"]
@@ -563,10 +581,10 @@ class Exact(Trial):
 
 
 class Page(Trial):
-    """The script of README.md, by itself."""
+    """The script on the page README.md, which is tested without the recipe."""
 
     def run_script(self):
-        """Runs the script, and returns its status and what it has printed."""
+        """Runs the script, and returns its status and what it prints on both streams."""
         readme = HERE.parent / "README.md"
         blocks = re.findall(r"(?ms)^```sh\n(.*?)^```$", readme.read_text() if readme.exists() else "")
         if not blocks:
