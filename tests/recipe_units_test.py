@@ -1,7 +1,9 @@
 #!/usr/bin/env python3
-"""Tests the functions of bin/crushedit-recipe, each by itself, without any other program.
+"""Tests the functions of the recipe bin/crushedit-recipe one by one.
 
     python3 tests/recipe_units_test.py
+
+The tests need no program except for Python. The status is 1 if a test fails.
 """
 import importlib.machinery
 import importlib.util
@@ -18,7 +20,7 @@ TOP = pathlib.Path(__file__).resolve().parent.parent
 sys.path.insert(0, str(TOP / "tests"))
 from recipe_test import CLASSES, MAP, POOL  # noqa: E402
 
-# The recipe is a program without an ending, which `import` would not find.
+# The name of the recipe doesn't end with `.py`, so a plain `import` wouldn't find the recipe.
 loader = importlib.machinery.SourceFileLoader("recipe", str(TOP / "bin/crushedit-recipe"))
 recipe = importlib.util.module_from_spec(importlib.util.spec_from_loader("recipe", loader))
 sys.modules["recipe"] = recipe

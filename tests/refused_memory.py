@@ -2,30 +2,49 @@
 
     python3 tests/refused_memory.py crates/crushedit/out/crushedit [TESTS] [WORD ..]
 
-A library that is preloaded answers the Nth request by nothing, for N from 1 until a run asks for fewer. Each
-such run has to end with status 4, nothing on standard output and its one line on standard error, or exactly as
-the run without a refusal. Each job runs at once and with --in-turn. Where several operators run at once the
-history may be another in each run: there the same calls of each operator, in order, count as the same ending.
-A worker that is out of memory lets the others finish: the run waits for them all, so it has to end by itself, and
-at its end the library looks whether a thread is left: in `_exit`, since the program ends by that.
+The script compiles a C library and preloads it in each run. In one run, the library refuses the first request for
+memory of the process, in the next run the second request, and so on. The last run makes fewer requests than the number
+of the refused request. Each job runs without options, so that its operators run at once, and with --in-turn. A run
+must end in one of two ways:
 
-Which line it is is known, too: `no thread` where the request was one for a thread to be started, else `out of
-memory`. A request is for a thread if the first thread makes it in `pthread_create`, or behind the start of a thread
-and before that of the last, or before the start of the first as late as that. And each thread of a job is once not
-started: `pthread_create` fails.
+- The run ends with status 4, without output, and with the one line on standard error that is expected below.
+- The run ends exactly as the same run without a refused request. If several operators run at once, the order of their
+  calls may differ from run to run. Then the status, standard error, and the calls of each operator must be the same.
 
-Then the requests are counted that the thread of an operator makes for calls which take no memory of a map, and for
-as many calls that are as long and are refused by a name that isn't there. Each is copied and kept alike, so that
-there have to be as many.
+If the thread of one operator runs out of memory, the run waits until all other operators have finished. So each run
+must end by itself, within 60 seconds. The program ends by a call of `_exit`. There the library checks that no other
+thread is left.
 
-TESTS is the path, with a `/`, of the program of crush_run_tests. Of it the tests of `run::gate_faults` are run in the
-same way, each request refused and each thread not started: each run has to pass, whatever the job in it comes to. They
-look whether a gate is called behind each call, also one that is out of memory. The tests of `editor::no_memory` are run
-in pairs, which make the same calls once and often: calls that take no memory, so that both have to ask for it as often.
+The expected line on standard error is `no thread` if the refused request was for the start of a thread, and otherwise
+`out of memory`. A request is for the start of a thread if the first thread of the process makes the request at one of
+these times:
 
-With words only jobs whose names have one of them are run. As many are run side by side as there are processors.
-Needs a C compiler, `cc`, `gcc` or what CC names, and the /proc of Linux. Prints how many requests were refused, and
-ends with status 1 where a run ends otherwise, a job asks for no memory, or such calls ask for more.
+- in `pthread_create`;
+- between the starts of the first and the last operator's thread;
+- just before the start of the first operator's thread. These are as many requests as there are between the starts of
+  the first and the second operator's thread. If a job has one operator, this number isn't known, and the script
+  accepts both lines for the requests before the start of the operator's thread.
+
+In further runs, `pthread_create` fails for one thread of the job. These runs must end with status 4 and `no thread`.
+
+After that, the script tests calls for which the map should allocate no memory. It counts the requests that the thread
+of an operator makes for such calls. It also counts the requests for an equal number of calls of the same length that
+are refused because a name is missing. The program copies and stores both kinds of calls in the same way, so the two
+numbers must be equal.
+
+TESTS is the path of the test program of the crate crush_run_tests. The path must contain a `/`. With TESTS, the script
+runs two modules of this crate's tests:
+
+- `run::gate_faults`: The script refuses each request and each start of a thread, as for the jobs. Each run of these
+  tests must pass, however the job in the test ends. The tests check that a gate, a callback of the library, is called
+  after each call of an operator, also after a call that runs out of memory.
+- `editor::no_memory`: The tests of a pair make the same calls once and many times. These calls should allocate no
+  memory, so the two tests must make the same number of requests.
+
+If there are WORDs, only the jobs run whose names contain one of the words. As many runs are at work at a time as there
+are processors. The script needs the /proc of Linux and a C compiler: the one that the variable CC names, or `cc`, or
+`gcc`. It prints how many requests were refused. The status is 1 if a run ends in another way, if no request for memory
+is made, or if two numbers of requests differ that must be equal.
 """
 
 import concurrent.futures
@@ -41,7 +60,7 @@ EXAMPLES = pathlib.Path(__file__).resolve().parent.parent / "examples"
 NO_MEMORY, NO_THREAD = b"crushedit: out of memory\n", b"crushedit: no thread\n"
 OF_GATES, OF_NO_MEMORY = "run::gate_faults::", "editor::no_memory::"
 PASSED, FAILED = b"test result: ok", b"assertion failed: "
-# A request that no run reaches: all are counted, and none is refused.
+# The number of a request that no run reaches: the library counts all requests, and refuses none.
 MANY = 2**40
 LIBRARY = r"""
 #define _GNU_SOURCE
@@ -68,8 +87,9 @@ static long refused, not_started;
 static const char *told, *left, *counted, *starts;
 static create *create_thread;
 static pthread_t first;
-/* Of the first thread: how many requests it made but in `pthread_create`, whether it is there, how many threads it was
-   to start, and how many requests it had made before each. */
+/* These are about the first thread. `own` is how many requests it has made outside of `pthread_create`, and `started` is
+   how often it has called `pthread_create`. before[i] is the value of `own` at the call number i, from 0. `is_starting` is
+   1 while the thread is in `pthread_create`. */
 static long own, started, before[64];
 static int is_starting;
 
@@ -104,8 +124,8 @@ static void tell_starts(void) {
     close(file);
 }
 
-/* Where the program ends otherwise than by `_exit`, this is told, since threads aren't looked at. A program that starts none
-   does so. */
+/* Runs if the program ends in another way than by `_exit`, as a program does that never starts threads. The library hasn't
+   counted the threads then, so it writes `other` to the file of LEFT_FILE. */
 __attribute__((destructor)) static void end(void) {
     tell(counted, "", atomic_load(&asked), 0);
     tell(left, "other", 0, 0);
@@ -122,7 +142,8 @@ static int threads(void) {
     return count;
 }
 
-/* The program's end, where it is told if a thread is left. One that was joined may be there for a moment more. */
+/* Ends the process, as the C library's `_exit` does. Before that, writes how many requests there were, and whether another
+   thread is left. Waits up to a second for the other threads, because a joined thread may still exist for a moment. */
 void _exit(int status) {
     refused = 0;
     tell(counted, "", atomic_load(&asked), 0);
@@ -136,8 +157,9 @@ void _exit(int status) {
     __builtin_unreachable();
 }
 
-/* Whether this request is the one to be refused; then the file is made by which it is told whose it was. Where none is to be,
-   those of other threads than the first are counted. */
+/* Counts this request, and returns whether it is the one to be refused. If it is, writes to the file of REFUSED_FILE which
+   thread made it. If `refused` is 0, counts nothing. If `refused` is negative, refuses nothing, and counts only the requests
+   of other threads than the first. */
 static int is_refused(void) {
     int is_first = pthread_equal(pthread_self(), first);
     own += is_first && !is_starting;
@@ -179,6 +201,7 @@ int posix_memalign(void **block, size_t align, size_t size) {
 
 
 def built_library(folder):
+    """Compiles the library, and returns its path."""
     source, library = folder / "refuse.c", folder / "refuse.so"
     source.write_text(LIBRARY)
     compiler = os.environ.get("CC") or ("cc" if shutil.which("cc") else "gcc")
@@ -187,38 +210,50 @@ def built_library(folder):
 
 
 def calls_of_each(out):
-    """The map is left out: it is that of one order. Of each operator its calls, in order."""
+    """Returns the calls of each operator in their order, without the replies.
+
+    The replies and the map are left out because they depend on the order of the calls of all operators.
+    """
     lines = re.findall(rb"(?m)^# \d+ (\S+) (.*) = ", out.partition(b"# end crush map\n")[2])
     return {operator: [call for name, call in lines if name == operator] for operator, _ in lines}
 
 
 def is_same(run, whole, is_at_once):
+    """Returns whether a run ended as the run `whole`, in which no request was refused."""
     if (run.returncode, run.stderr) != (whole.returncode, whole.stderr):
         return False
     return run.stdout == whole.stdout or (is_at_once and calls_of_each(run.stdout) == calls_of_each(whole.stdout))
 
 
 class Ending(Exception):
-    """How a run ended that may not end so."""
+    """Says how a run ended that should have ended in another way."""
 
 
 def files_in(folder):
-    """By which the library tells what it did: a request refused, a thread left, how many requests there were, and of
-    the first thread how many before each thread that it started."""
+    """Returns the paths of the files that the library writes, by the names of their environment variables.
+
+    REFUSED_FILE says which thread made the refused request. LEFT_FILE exists if a thread is left at the end, or if the
+    program didn't end by `_exit`. COUNTED_FILE has the number of requests. STARTS_FILE has a number for each start of
+    a thread: how many requests the first thread had made before this start.
+    """
     names = "REFUSED_FILE", "LEFT_FILE", "COUNTED_FILE", "STARTS_FILE"
     return {name: pathlib.Path(folder, name) for name in names}
 
 
 def preloaded(command, library, files, job, number, thread=0):
-    """A run in which this request is refused. 0 refuses none; -1 neither, and counts those of the operators. And this
-    thread isn't started, of those from 1 on."""
+    """Runs a command with the library, and returns how the run ended.
+
+    The library refuses the request with the given number, from 1. If the number is 0 or -1, it refuses none. If the
+    number is -1, it counts only the requests of other threads than the first. The library makes the start of the
+    thread with the number `thread` fail, from 1, or no start if `thread` is 0.
+    """
     environment = {"LD_PRELOAD": library, "REFUSED_NUMBER": number, "THREAD_NUMBER": thread, **files}
     environment = {name: str(value) for name, value in environment.items()}
     return subprocess.run(command, input=job, capture_output=True, env=environment, timeout=60)
 
 
 class Refuser:
-    """Runs a command on a job, and refuses a request. What the library tells goes into a folder of its own."""
+    """Runs a command on a job many times, and refuses one request in each run. `folder` gets the library's files."""
 
     def __init__(self, command, library, folder, name, job=b"", is_at_once=False):
         self.command, self.library, self.name, self.job, self.is_at_once = command, library, name, job, is_at_once
@@ -228,15 +263,26 @@ class Refuser:
         self.before = [int(number) for number in self.starts.read_text().split()]
 
     def run(self, number, thread=0):
-        """The run in which this request is refused, or this thread not started, and whose the request was, if there
-        was one; 0 refuses none."""
+        """Runs the command once. Refuses the request with this number, or makes the start of this thread fail.
+
+        The numbers begin with 1, and 0 means that no request is refused or no start fails. Returns how the run ended,
+        and the words of REFUSED_FILE. The second value is None if no request was refused and no start failed.
+        """
         self.told.unlink(missing_ok=True)
         run = preloaded(self.command, self.library, self.files, self.job, number, thread)
         return run, self.told.read_text().split() if self.told.exists() else None
 
     def lines(self, told):
-        """The lines that may be told of this request: of another's than a thread's `out of memory` alone. It is known
-        how many are for a thread before its start where there are two to be compared."""
+        """Returns the lines that standard error may have after this request was refused.
+
+        `told` has the words of REFUSED_FILE: the kind of the request (`operator` if another thread than the first made
+        it, `start` if it was in `pthread_create`, otherwise `first`), and the values of `own` and `started` in the
+        library.
+
+        If at least two threads are started, the first thread makes before[1] - before[0] requests for the second of
+        them before it starts this thread. It makes as many requests for the first of them. If only one thread is
+        started, this number isn't known.
+        """
         who, own, started = told[0], int(told[1]), int(told[2])
         if who == "operator" or who == "first" and started == len(self.before):
             return [NO_MEMORY]
@@ -248,7 +294,10 @@ class Refuser:
         return [NO_THREAD if is_for_thread else NO_MEMORY]
 
     def wants(self, run, told, what):
-        """Whether the run in which this was refused ended out of memory; else it has to be the whole."""
+        """Returns whether a run with a refused request or start ended with status 4.
+
+        Raises Ending if the run ended in another way, and not as the run without a refusal, or if a thread is left.
+        """
         if self.left.exists():
             raise Ending(f"{self.name}: {what}: a thread is left")
         if run.returncode == 4 and not run.stdout and run.stderr in self.lines(told):
@@ -259,8 +308,11 @@ class Refuser:
         return False
 
     def refuse_each(self):
-        """How many requests were refused, how many of these runs ended out of memory, and how many threads were
-        not started, whose runs all have to."""
+        """Refuses each request and each start of a thread in a run of its own.
+
+        Returns how many requests were refused, how many of these runs ended with status 4, and how many threads
+        weren't started. All runs in which a thread isn't started must end with status 4.
+        """
         number = wanting = 0
         while True:
             run, told = self.run(number + 1)
@@ -278,10 +330,10 @@ class Refuser:
 
 
 class TestRefuser(Refuser):
-    """The same of a test, which has to pass in each run."""
+    """Refuses the requests of a test in place of a job. The test must pass in each run."""
 
     def wants(self, run, told, what):
-        """Whether the run passed; else how it ended is told, a failed assertion apart."""
+        """Returns True if the test passed. Otherwise raises Ending, which says how the run ended."""
         if run.returncode == 0 and run.stdout.strip() == PASSED and not self.left.exists():
             return True
         how = "" if run.stderr.startswith(FAILED) else "no assertion failed, "
@@ -290,6 +342,7 @@ class TestRefuser(Refuser):
 
 
 def refuse_each(program, library, job, flags):
+    """Refuses each request of a job that runs with these options, and returns the counts of `Refuser.refuse_each`."""
     name, text = " ".join([job.name, *flags]), job.read_bytes()
     with tempfile.TemporaryDirectory() as folder:
         is_at_once = text.count(b"\n%operator") > 1 and not flags
@@ -297,12 +350,13 @@ def refuse_each(program, library, job, flags):
 
 
 def refuse_each_of_test(tests, library, name):
+    """Refuses each request of a test, and returns the counts of `Refuser.refuse_each`."""
     with tempfile.TemporaryDirectory() as folder:
         return TestRefuser([tests, name], library, folder, name).refuse_each()
 
 
 def tests_of(tests, module):
-    """The names of the tests of a module among those of a program."""
+    """Returns the names of the tests of a module in a test program. Raises Ending if there are none."""
     listed = subprocess.run([tests, "--list"], capture_output=True, check=True, timeout=60).stdout.decode()
     names = re.findall(rf"(?m)^({module}\w+): test$", listed)
     if not names:
@@ -311,7 +365,7 @@ def tests_of(tests, module):
 
 
 def count_of_test(tests, library, name):
-    """How many requests for memory a test makes, which has to pass."""
+    """Returns how many requests for memory a test makes. Raises Ending if the test doesn't pass."""
     with tempfile.TemporaryDirectory() as folder:
         files = files_in(folder)
         run = preloaded([tests, name], library, files, b"", MANY)
@@ -321,7 +375,10 @@ def count_of_test(tests, library, name):
 
 
 def look_often(tests, library):
-    """How many pairs of tests make the same calls once and often, and ask for memory as often."""
+    """Runs the pairs of tests that make the same calls once and many times, and returns how many pairs there are.
+
+    Raises Ending if the two tests of a pair don't make the same number of requests, or make none.
+    """
     names = [name for name in tests_of(tests, OF_NO_MEMORY) if name.endswith("_once")]
     for name in names:
         once = count_of_test(tests, library, name)
@@ -331,7 +388,7 @@ def look_often(tests, library):
     return len(names)
 
 
-# Hosts with a device each in one root, and as many that are empty.
+# A map with a root that holds hosts with one device each. The map also has as many empty hosts, which are in no root.
 NUMBERS = range(10, 18)
 MAP = "\n".join([
     *(f"device {number} osd.{number} class ssd" for number in NUMBERS),
@@ -341,8 +398,8 @@ MAP = "\n".join([
     "root default { id -1 alg straw2 " + " ".join(f"item h{number} weight 1.0" for number in NUMBERS) + " }",
 ])
 CHANGED, SAME = "done changed 1 made 0", "done changed 0 made 0"
-# Calls that take no memory of a map, each with its reply and beside one as long that is refused by a name that isn't
-# there. N is one of the numbers, M one of 60 more.
+# Calls for which the map should allocate no memory. Each has its reply, and a call of the same length that is refused
+# because the map doesn't have a name. N stands for each of NUMBERS, and M for N + 60.
 NO_MEMORY_TAKEN = [
     ("reweight osd.N 2.0", CHANGED, "reweight osd.M 2.0"),
     ("reweight osd.N 1.0", SAME, "reweight osd.M 1.0"),
@@ -356,19 +413,24 @@ NO_MEMORY_TAKEN = [
     ("set osd.N 2.0 host=hN", CHANGED, "set osd.N 2.0 hose=hN"),
     ("create-or-move osd.N 5.0 host=hN", SAME, "create-or-move osd.N 5.0 hose=hN"),
 ]
-# Where both hosts have room for the device, since it was in both.
+# Moves of a device between two hosts. After the first two moves, both hosts have room for the device, since it was in
+# both.
 TO, FRO = "move osd.10 host=h11", "move osd.10 host=h10"
 TO_AND_FRO = ([TO, FRO], [TO, FRO] * 3, CHANGED, [TO.replace("host", "hose")] * 6)
 
 
 class Counter:
-    """Counts the requests of an operator's calls. What the library tells goes into a folder of its own."""
+    """Counts the requests for memory of an operator's calls. `folder` gets the library's files."""
 
     def __init__(self, program, library, folder):
         self.command, self.library, self.files = [program], library, files_in(folder)
 
     def count(self, before, calls, reply):
-        """How many requests there are, where each call but those before has to get this reply."""
+        """Runs a job with the calls `before` and then `calls`, and returns how many requests the operator's thread
+        makes.
+
+        Raises Ending if not each of `calls` gets this reply.
+        """
         job = "\n".join([MAP, "%operator a", *before, *calls, ""]).encode()
         run = preloaded(self.command, self.library, self.files, job, -1)
         replies = [line.partition(" = ")[2] for line in run.stdout.decode().splitlines() if " = " in line]
@@ -379,7 +441,10 @@ class Counter:
 
 
 def take_none(program, library):
-    """How many kinds of call take no memory of a map."""
+    """Tests the calls for which the map should allocate no memory, and returns how many kinds of them there are.
+
+    Raises Ending if one of these kinds makes another number of requests than the refused calls of the same length.
+    """
     kinds = [
         ([], [line.replace("N", str(number)) for number in NUMBERS], reply,
          [beside.replace("N", str(number)).replace("M", str(60 + number)) for number in NUMBERS])
@@ -395,12 +460,12 @@ def take_none(program, library):
 
 
 def summed(cases):
-    """The sums of what each case counts."""
+    """Returns the sums of the counts of all cases."""
     return [sum(column) for column in zip(*(case.result() for case in cases))]
 
 
 def refuse_all(pool, program, library, jobs, tests):
-    """Tells what was refused of each job in both modes, and of the tests."""
+    """Refuses the requests of the jobs, at once and with --in-turn, and of the tests of gates. Prints the sums."""
     modes = {
         mode: [pool.submit(refuse_each, program, library, job, flags) for job in jobs]
         for mode, flags in (("at once", []), ("in turn", ["--in-turn"]))
