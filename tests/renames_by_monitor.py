@@ -1,18 +1,23 @@
-"""Renames buckets that rules take with a class by a monitor of Ceph, and looks at the names of its class trees.
+"""Renames buckets on a monitor of Ceph, and checks the names of the buckets' class trees.
 
     python3 tests/renames_by_monitor.py crates/crushedit/out/crushedit FOLDER N SEED [--leave-out]
 
-In FOLDER a monitor runs that `tests/monitor.sh start` has started. N times the monitor gets a random map, in which rules take
-buckets with a class. A script gives new names to one or more of these buckets. The monitor makes the commands that
-`--as-ceph` prints for the script, and has to accept each of them. After that, each class tree must have the name of a
-bucket that is there, followed by `~` and the class, and the text that `crushtool -d` prints of the monitor's map must
-have the rules with the new names.
+A *class tree* is Ceph's copy of a bucket for a device class. The copy has only the devices of this class. Its name is
+the name of the bucket, followed by `~` and the class. The test needs root, and a monitor that `tests/monitor.sh start`
+has started in FOLDER.
 
-With --leave-out, the commands `reweight-all` are not sent. Then some class trees keep their old names, which shows that
-the trial sees them.
+The monitor gets N random maps, one after the other. Each map has rules that take buckets with a class. A script of
+`rename-bucket` commands gives new names to these buckets. The test sends the monitor the commands that `--as-ceph`
+prints for the script, and the monitor must accept each of them. After that, the name of each class tree must begin
+with the name of a bucket of the map. In the text that `crushtool -d` prints of the monitor's map, the rules must take
+the buckets with the new names.
 
-Printed is how many maps, commands and class trees there were, and how many class trees have another name. The status is 1
-if there is one.
+With --leave-out, the test doesn't send the commands `reweight-all`. Then some class trees keep their old names, which
+shows that the test notices such names.
+
+The test prints how many maps, commands and class trees there were, and how many class trees have the name of no
+bucket. The status is 1 if there is such a class tree, if the monitor refuses a command, or if a rule doesn't take the
+new name of its bucket.
 """
 
 import json
@@ -35,7 +40,8 @@ RULE = """rule taken{number} {{
 
 
 def with_rules(text, dice):
-    """The text with a rule for each of some buckets, and these buckets."""
+    """Adds rules to the text of a map, each of which takes one bucket with a class. Returns the new text and the names
+    of these buckets."""
     names = re.findall(r"(?m)^(?:host|rack|row|root|room) (\S+) \{$", text)
     taken = dice.sample(names, min(len(names), dice.choice((1, 2, 3))))
     rules = "".join(RULE.format(number=number, id=number + 10, bucket=name, kind=dice.choice(CLASSES)) for number, name in enumerate(taken))
@@ -43,7 +49,8 @@ def with_rules(text, dice):
 
 
 def other_names(monitor):
-    """The class trees of the monitor's map, and those with the name of no bucket."""
+    """Returns the names of all class trees of the monitor's map, and then those that don't begin with a bucket's
+    name."""
     names = [bucket["name"] for bucket in json.loads(monitor.asked("osd", "crush", "dump"))["buckets"]]
     trees = [name for name in names if "~" in name]
     return trees, [name for name in trees if name.partition("~")[0] not in names]
@@ -61,7 +68,7 @@ def main():
         try:
             text = monitor.take(text)
         except Failed:
-            continue  # a rule of this map takes a class that no device below the bucket has
+            continue  # A rule of this map takes a class that no device below the bucket has.
         maps += 1
         script = "%operator a\n" + "".join(f"rename-bucket {name} new-{name}\n" for name in taken)
         for line in edited(program, text, script, "--as-ceph").splitlines():

@@ -1,10 +1,10 @@
-"""Runs crushedit as the sessions of tests/runs/ show, and compares what it prints with what stands there.
+"""Runs the commands of the sessions in tests/runs/, and compares what they print with what the sessions show.
 
     python3 tests/runs.py PROGRAM [TOPIC ..]
 
 A session is a test of the whole program: a title, commands of a shell, and below each command exactly what it prints.
-A TOPIC is the name of a file in tests/runs/ without `.txt`; without one, all files are run. The file `texts.txt` has no
-sessions, but texts that the other files share.
+A TOPIC is the name of a file in tests/runs/ without `.txt`; without one, all files are run. The file `texts.txt` has
+no sessions, but texts that the other files share.
 
 A file begins with a paragraph about its topic. Then it has texts and sessions:
 
@@ -13,18 +13,21 @@ A file begins with a paragraph about its topic. Then it has texts and sessions:
     $ COMMAND            a command of bash, in which `crushedit` is PROGRAM
     > MORE               continues the command on another line
     2> LINE              a line of standard error
-    status N             the command's status, if it isn't 0; that of a pipe is the last one that isn't 0
+    status N             the command's status, if it isn't 0. A pipe has the status of its last command that failed
     @NAME                in a text or in an output: the lines of the text NAME
     ...                  any lines, or none
     LINE...              a line that begins with LINE
     LINE                 a line of standard output, or of a text
 
-Each line ends with a line feed, also the last one. Blank lines before a head or a command count for nothing. A text that
-isn't lines of printable characters is written by a command, such as `printf`.
+Each line ends with a line feed, also the last one. Blank lines before a line that begins with `--`, `==` or `$` are
+ignored. If a session needs a file that doesn't consist of lines of printable characters, a command of the session,
+such as `printf`, writes the file.
 
-Each session runs in a temporary folder of its own, and several run at the same time. For each command that ends
-otherwise, prints the session's place and title, the command, and both what was expected and what came. The last line has
-the number of sessions and of commands. The status is 1 if a command ended otherwise.
+Each session runs in a temporary folder of its own, and several sessions run at the same time. A command fails if its
+output, its standard error or its status isn't as the session shows. For each command that fails, the script prints the
+file, the line and the title of the session, the command, what was expected, and what the command printed instead. The
+last line has the number of sessions, of commands, and of commands that failed. The status is 1 if a command failed, or
+if there was no session.
 """
 
 import concurrent.futures
@@ -38,16 +41,18 @@ import tempfile
 
 RUNS = pathlib.Path(__file__).resolve().parent / "runs"
 SHARED = "texts"
-# Seconds of a command, far above what any takes: a program that hangs must not keep the gate forever.
+# The most seconds that a command may run, far more than any command needs. Without this limit, a program that hangs
+# would keep the checks of `make check` forever.
 LONGEST = 900
 GAP = "..."
-# The lines of the longest output that is printed whole, where it isn't as expected.
+# If an output isn't as expected, and has at most this many lines, all its lines are printed.
 SHOWN = 60
 
 
 @dataclasses.dataclass
 class Command:
-    """A command of a session, with the lines that it has to print."""
+    """A command of a session, with the lines that it must print on standard output and standard error, and its
+    status."""
 
     words: str
     out: list = dataclasses.field(default_factory=list)
@@ -57,7 +62,8 @@ class Command:
 
 @dataclasses.dataclass
 class Session:
-    """The commands of one folder. `place` is the file and the line of the title."""
+    """A session, whose commands run in one folder. `place` is the file and the line of its title. `texts` has the
+    lines of each text that the session finds as a file, by the text's name."""
 
     place: str
     title: str
@@ -66,13 +72,15 @@ class Session:
 
 
 def without_blank_end(lines):
+    """Removes the empty lines at the end of a list, and returns the list."""
     while lines and not lines[-1]:
         lines.pop()
     return lines
 
 
 def spelled(lines, texts, place):
-    """The lines, with those of a text in the place of its `@NAME`."""
+    """Yields the lines, with the lines of a text in place of each line `@NAME`. `place` is named if there is no such
+    text."""
     for line in lines:
         if line.startswith("@"):
             if line[1:] not in texts:
@@ -83,7 +91,7 @@ def spelled(lines, texts, place):
 
 
 def command_of(lines, texts, place):
-    """The command that begins with the first of the lines."""
+    """Returns the command that these lines of a session show. The first of the lines begins with `$ `."""
     words, rest = [lines[0].removeprefix("$ ")], lines[1:]
     while rest and rest[0].startswith("> "):
         words.append(rest.pop(0).removeprefix("> "))
@@ -100,7 +108,11 @@ def command_of(lines, texts, place):
 
 
 def blocks_of(path):
-    """The heads of a file, `--` or `==`, each with its line number, what follows it there, and the lines below it."""
+    """Returns the texts and sessions of a file as blocks of lines.
+
+    A block is its sign `--` or `==`, the number of the line with this sign, the rest of that line, and the lines below
+    it.
+    """
     heads = []
     for number, line in enumerate(path.read_text().split("\n"), 1):
         head = re.fullmatch(r"(--|==) (.+)", line)
@@ -112,7 +124,7 @@ def blocks_of(path):
 
 
 def read_topic(path, shared):
-    """The texts of a file, with those that it shares, and its sessions."""
+    """Returns the texts of a file, together with the shared texts, and its sessions."""
     texts, sessions = dict(shared), []
     for kind, number, name, lines in blocks_of(path):
         place = f"{path.name}:{number}"
@@ -128,14 +140,15 @@ def read_topic(path, shared):
 
 
 def read_sessions(topics):
-    """The sessions of these topics, of all if there is none."""
+    """Returns the sessions of these topics, or of all topics if none is given."""
     shared, _ = read_topic(RUNS / f"{SHARED}.txt", {})
     paths = [RUNS / f"{topic}.txt" for topic in topics] or sorted(set(RUNS.glob("*.txt")) - {RUNS / f"{SHARED}.txt"})
     return [session for path in paths for session in read_topic(path, shared)[1]]
 
 
 def is_as(lines, text):
-    """Whether a text has these lines, of which some may stand for others."""
+    """Returns whether an output has the expected lines. A line `...`, and `...` at the end of a line, stand for any
+    text."""
     if not any(line.endswith(GAP) for line in lines):
         return "".join(f"{line}\n" for line in lines) == text
     forms = []
@@ -150,14 +163,17 @@ def is_as(lines, text):
 
 
 def shown(lines):
-    """Lines below a head, and of very many those at both ends."""
+    """Returns the lines, indented. If there are more than SHOWN, returns only lines from the beginning and the end."""
     if len(lines) > SHOWN:
         lines = [*lines[: SHOWN // 2], f"({len(lines) - SHOWN} more lines)", *lines[-SHOWN // 2 :]]
     return [f"      {line}" for line in lines] or ["      (nothing)"]
 
 
 def compared(what, lines, text):
-    """What is printed of an output that isn't as expected."""
+    """Returns the lines to print about an output that isn't as expected, or no lines if it is.
+
+    `what` names the stream. `lines` are the expected lines, and `text` is the output.
+    """
     if is_as(lines, text):
         return []
     came = text.split("\n")
@@ -166,7 +182,10 @@ def compared(what, lines, text):
 
 
 def faults_of(session, folder, path):
-    """What differs in a session's commands, a list for each command that ends otherwise."""
+    """Runs the commands of a session in a folder. Yields the lines to print about each command that fails.
+
+    `path` is the variable PATH of the commands.
+    """
     for name, lines in session.texts.items():
         pathlib.Path(folder, name).write_text("".join(f"{line}\n" for line in lines))
     for command in session.commands:
@@ -186,7 +205,7 @@ def faults_of(session, folder, path):
 
 
 def run_sessions(sessions, program):
-    """What differs, in the order of the sessions."""
+    """Runs the sessions. Returns the lines to print about each command that fails, in the order of the sessions."""
     with tempfile.TemporaryDirectory() as top, concurrent.futures.ThreadPoolExecutor(os.cpu_count()) as pool:
         commands = pathlib.Path(top, "bin")
         commands.mkdir()

@@ -1,18 +1,23 @@
-"""Stand-ins for `ceph`, `crushtool` and `osdmaptool`, with which the recipe is tried on machines without Ceph.
+"""Takes the place of Ceph's programs `ceph`, `crushtool` and `osdmaptool` in the tests of the recipe.
 
-`recipe_test.py` copies this file into a folder under the three names. Each stand-in acts by the name that it is called
-by, and reads and writes files beside itself:
+With these stand-ins, recipe_test.py tests the recipe on machines without Ceph. It copies this file into a folder under
+the three names. Each copy does the work of the program whose name it has, as far as the tests need it. The copies read
+and write these files in their folder:
 
-- cluster: the cluster's map. A binary map is its text here.
+- cluster: the map of the cluster. The stand-ins use the text of a map also as the binary map.
 - version: what `ceph osd getcrushmap` prints on standard error.
 - osds, pools, df: the JSON that `ceph osd ls`, `ceph osd pool ls detail` and `ceph df` print.
-- asked, given: the words of any other command of ceph, and its standard input.
-- broken-WORD: `crushtool WORD` fails; broken-new: `crushtool --test` of 2 replicas is killed at another map than the cluster's.
-- dump: what `crushtool --dump` prints of the cluster's map, in place of what its text says.
+- asked: the words of each command of `ceph` except for the commands above and `osd getmap`. If a word is `-`, the file
+  `given` gets the command's standard input.
+- broken-c, broken-d: if the file exists, `crushtool -c` or `crushtool -d` fails.
+- broken-new: if the file exists, a signal kills `crushtool --test` of 2 replicas, unless it tests the cluster's own
+  map.
+- dump: if the file exists, it is what `crushtool --dump` prints for the cluster's own map.
 
-Like Ceph's own, `crushtool -c` cuts weights to units, and `crushtool -d` prints five decimals of a 32-bit float, and a
-negative number from 32768.0 on.
-A rule places replicas on the first devices that weigh anything, for ten inputs.
+Like Ceph's own program, the stand-in for `crushtool -c` rounds weights down to whole units (65536ths of 1.0). The
+stand-in for `crushtool -d` prints weights as 32-bit floats with five decimals, and weights of 32768.0 and more as
+negative numbers. Each rule places replicas on the first devices of the map whose weight isn't 0. `crushtool --test`
+does this for ten inputs, and `osdmaptool` for each PG (placement group) of each pool.
 """
 import json
 import os
@@ -37,7 +42,7 @@ def text_of(name):
 
 
 def output(text, words):
-    """Writes a text to the file behind -o, or to standard output."""
+    """Writes a text to the file that follows the option -o, or to standard output if there is no such option."""
     if "-o" in words:
         with open(words[words.index("-o") + 1], "w") as file:
             file.write(text)
@@ -46,7 +51,8 @@ def output(text, words):
 
 
 def blocks_of(text):
-    """The kind, name and lines of each bucket and rule."""
+    """Returns the kind, the name and the lines of each bucket and each rule. A line is a list of words, without its
+    comment."""
     return [(kind, name, [line.split("#")[0].split() for line in lines.splitlines()])
             for kind, name, lines in re.findall(r"(?ms)^(\w+) (\S+) \{\n(.*?)^\}", text)]
 
@@ -69,14 +75,15 @@ def ceph(words):
 
 
 def cut(text):
-    """A text as it is compiled: weights cut to units."""
+    """Returns the text that `crushtool -c` writes: weights are rounded down to units, and history lines are left
+    out."""
     def units(found):
         return "{}{:.5f}".format(found[1], int(Fraction(found[2]) * UNITS) / UNITS)
     return re.sub(r"(?m)^# [0-9].*\n", "", ITEM.sub(units, text))
 
 
 def printed(text):
-    """A text as it is printed."""
+    """Returns the text that `crushtool -d` writes."""
     def weight(found):
         number, = struct.unpack("f", struct.pack("f", float(found[2]) - (65536 if float(found[2]) >= 32768 else 0)))
         return "{}{:.5f}".format(found[1], number)
@@ -84,7 +91,7 @@ def printed(text):
 
 
 def dump(text):
-    """What `crushtool --dump` says of devices, buckets and rules."""
+    """Returns the JSON that `crushtool --dump` prints: devices, buckets with their items, and the takes of rules."""
     if has("dump") and text == text_of("cluster"):
         return text_of("dump")
     ids, rules, buckets = {name: int(number) for number, name in re.findall(r"(?m)^device (\d+) (\S+)", text)}, [], []
@@ -102,11 +109,13 @@ def dump(text):
 
 
 def placed(text, size):
-    """The devices of a placement."""
+    """Returns the numbers of the devices on which a rule places `size` replicas."""
     return re.findall(r"(?m)^\titem osd\.(\d+) weight .*[1-9].*$", text)[:size]
 
 
 def tested(text, words):
+    """Prints what `crushtool --test` prints: all placements with --show-mappings, otherwise those that lack a
+    device."""
     size = words[words.index("--num-rep") + 1]
     if has("broken-new") and size == "2" and text != text_of("cluster"):
         os.kill(os.getpid(), signal.SIGSEGV)
