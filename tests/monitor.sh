@@ -1,16 +1,19 @@
 #!/bin/bash
-# Runs a monitor of Ceph 18.2.7 in a folder of its own, on the loopback alone, for tests/against_monitor.py.
+# Runs a monitor of Ceph 18.2.7, the server process that keeps the map of a cluster, for the tests that need a monitor.
+# The monitor runs in a folder of its own, and listens only on the loopback interface.
 #
 #     tests/monitor.sh install|start|osds|stop FOLDER
 #
-# It needs root. `install` installs a Debian 13 in FOLDER (by `debootstrap`, which it fetches if it isn't there; 800 MB
-# with the packages ceph-mon, ceph-common and ceph-base). `start` starts a monitor with an empty store and ten OSDs that
-# the monitor knows and that don't run. `osds` then runs these OSDs, which store up to 1 GB each in memory, and a manager,
-# so that pools can have data. `stop` ends all of them. What runs sees FOLDER alone (`chroot`), with a /proc of its own, so
-# that no mount is left, and FOLDER may be removed once the monitor has stopped.
+# The script needs root. `install` installs the system Debian 13 in FOLDER, with the packages ceph-mon, ceph-common and
+# ceph-base. This takes 800 MB. If the program `debootstrap` is missing, `install` first installs it on the machine.
+# `start` starts a monitor with an empty store. The monitor knows ten OSDs (the server processes of disks), but they
+# don't run. `osds` then starts these OSDs and a manager of Ceph, so that pools can have data. Each OSD stores up to 1
+# GB in memory. `stop` ends all these processes. Each of them sees only FOLDER (`chroot`), and has its own mount of
+# /proc. So no mount is left, and FOLDER may be removed after `stop`.
 #
-# FOLDER has to be new or empty for `install`, which puts a mark there. The script writes and removes nothing in a folder
-# without that mark: `start` replaces the store of the monitor and the configuration of Ceph that it finds there.
+# For `install`, FOLDER must be new or empty, or have the mark that an earlier `install` has put there. The script
+# writes and removes nothing in a folder that has other files and no mark, and the other commands need the mark.
+# `start` replaces the monitor's store and Ceph's configuration in FOLDER.
 set -euo pipefail
 unset CDPATH
 
@@ -26,12 +29,14 @@ mark=$root/.crushedit-monitor
 export DEBIAN_FRONTEND=noninteractive LC_ALL=C.UTF-8
 osds=10
 
-# A command in the folder, with a /proc that goes when it ends.
+# Runs a command in the folder, with its own mount of /proc, which disappears when the last process of the command
+# ends.
 within() {
     unshare --mount sh -c 'mount -t proc proc "$0/proc" && exec chroot "$0" "$@"' "$root" "$@"
 }
 
-# Ends the process whose id is in a file, if it runs in the folder.
+# Ends the process whose id is in a file, if the process runs in the folder. Fails if the process hasn't ended after
+# ten seconds.
 end() {
     [ -s "$1" ] || return 0
     local pid
@@ -72,7 +77,8 @@ start)
     stop
     rm -rf "$root/mon"
     mkdir -p "$root/mon/data" "$root/etc/ceph"
-    # By `none` in place of cephx a client may ask before it knows the fsid, and is refused now and then.
+    # With `none` in place of `cephx`, a client may send a command before it knows the fsid, and Ceph then sometimes
+    # refuses the command.
     cat >"$root/etc/ceph/ceph.conf" <<END
 [global]
 fsid = $(cat /proc/sys/kernel/random/uuid)
@@ -106,13 +112,13 @@ END
     within ceph --version
     ;;
 osds)
-    # Only the files of the packages are wanted, and not their services.
+    # Unpacks only the files of the packages, because their services must not be set up.
     if [ ! -x "$root/usr/bin/ceph-osd" ]; then
         within sh -ec 'cd "$(mktemp -d)"; apt-get -qq download "$@"; for file in *.deb; do dpkg-deb -x "$file" /; done' sh \
             ceph-osd ceph-mgr ceph-mgr-modules-core libfuse3-4 libsqlite3-mod-ceph libpython3.13 libpython3.13-stdlib \
             libboost-python1.83.0
     fi
-    # An OSD that starts changes neither its place nor its class.
+    # With these settings, an OSD that starts changes neither its place nor its class in the map.
     cat >>"$root/etc/ceph/ceph.conf" <<END
 osd objectstore = memstore
 memstore device bytes = 1073741824

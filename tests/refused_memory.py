@@ -87,9 +87,9 @@ static long refused, not_started;
 static const char *told, *left, *counted, *starts;
 static create *create_thread;
 static pthread_t first;
-/* These are about the first thread. `own` is how many requests it has made outside of `pthread_create`, and `started` is
-   how often it has called `pthread_create`. before[i] is the value of `own` at the call number i, from 0. `is_starting` is
-   1 while the thread is in `pthread_create`. */
+/* These are about the first thread. `own` is how many requests it has made outside of `pthread_create`, and `started`
+   is how often it has called `pthread_create`. before[i] is the value of `own` at the call number i, from 0.
+   `is_starting` is 1 while the thread is in `pthread_create`. */
 static long own, started, before[64];
 static int is_starting;
 
@@ -124,8 +124,8 @@ static void tell_starts(void) {
     close(file);
 }
 
-/* Runs if the program ends in another way than by `_exit`, as a program does that never starts threads. The library hasn't
-   counted the threads then, so it writes `other` to the file of LEFT_FILE. */
+/* Runs if the program ends in another way than by `_exit`, as a program does that never starts threads. The library
+   hasn't counted the threads then, so it writes `other` to the file of LEFT_FILE. */
 __attribute__((destructor)) static void end(void) {
     tell(counted, "", atomic_load(&asked), 0);
     tell(left, "other", 0, 0);
@@ -142,8 +142,9 @@ static int threads(void) {
     return count;
 }
 
-/* Ends the process, as the C library's `_exit` does. Before that, writes how many requests there were, and whether another
-   thread is left. Waits up to a second for the other threads, because a joined thread may still exist for a moment. */
+/* Ends the process, as the C library's `_exit` does. Before that, writes how many requests there were, and whether
+   another thread is left. Waits up to a second for the other threads, because a joined thread may still exist for a
+   moment. */
 void _exit(int status) {
     refused = 0;
     tell(counted, "", atomic_load(&asked), 0);
@@ -157,9 +158,9 @@ void _exit(int status) {
     __builtin_unreachable();
 }
 
-/* Counts this request, and returns whether it is the one to be refused. If it is, writes to the file of REFUSED_FILE which
-   thread made it. If `refused` is 0, counts nothing. If `refused` is negative, refuses nothing, and counts only the requests
-   of other threads than the first. */
+/* Counts this request, and returns whether it is the one to be refused. If it is, writes to the file of REFUSED_FILE
+   which thread made it. If `refused` is 0, doesn't count the request in `asked`. If `refused` is negative, refuses
+   nothing, and counts only the requests of other threads than the first. */
 static int is_refused(void) {
     int is_first = pthread_equal(pthread_self(), first);
     own += is_first && !is_starting;

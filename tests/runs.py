@@ -3,8 +3,8 @@
     python3 tests/runs.py PROGRAM [TOPIC ..]
 
 A session is a test of the whole program: a title, commands of a shell, and below each command exactly what it prints.
-A TOPIC is the name of a file in tests/runs/ without `.txt`; without one, all files are run. The file `texts.txt` has
-no sessions, but texts that the other files share.
+PROGRAM is the path of the program crushedit. A TOPIC is the name of a file in tests/runs/ without `.txt`. Without a
+TOPIC, the sessions of all files run. The file `texts.txt` has no sessions, but texts that the other files share.
 
 A file begins with a paragraph about its topic. Then it has texts and sessions:
 
@@ -13,7 +13,7 @@ A file begins with a paragraph about its topic. Then it has texts and sessions:
     $ COMMAND            a command of bash, in which `crushedit` is PROGRAM
     > MORE               continues the command on another line
     2> LINE              a line of standard error
-    status N             the command's status, if it isn't 0. A pipe has the status of its last command that failed
+    status N             the command's status, if it isn't 0 (for a pipe, the last status in it that isn't 0)
     @NAME                in a text or in an output: the lines of the text NAME
     ...                  any lines, or none
     LINE...              a line that begins with LINE

@@ -1,16 +1,27 @@
-"""Runs crushedit on streams that are closed, full, endless or go away, and looks whether it ends as docs/ say.
+"""Runs crushedit with files and streams that are closed, full or endless, or whose other end is closed.
 
     python3 tests/streams.py crates/crushedit/out/crushedit [--table]
 
-Each case is a command of bash, with `$C` for the program and `$L` for a library that is preloaded, with which a
-file that is synced answers that the disk is full (it needs a C compiler, `cc`, `gcc` or what CC names), in a
-folder with `job` (a map with an edit), `large` (one
-of 2,000 devices, more than a pipe holds), `adjusted` (a weight that is no sum), `refused` (a command that is refused) and `map` (a map). Of a file that can't be opened or
-read `--explain` tells the reason, of standard input no more than the sentence. In some cases standard error is a
-terminal, where the reasons are told without `--explain`. Of each it tells the status, of
-what a signal ended 128 and its number, what standard error got, and how much of its output was written. With --table
-what comes is printed as a table and not judged; else a line for each case that ends otherwise, and status 1 where
-any does.
+The tables CASES, ON_TERMINAL and OF_OTHERS have the cases and the expected results, as docs/ and tests/README.md
+describe them. Each case is a command of bash, which runs in a new folder with these files:
+
+- `job`: a map and a script with one edit.
+- `large`: a map of 2,000 devices and a script with one edit. The output is larger than what a pipe can hold.
+- `map`: a map without a script.
+- `adjusted`: a map in which the weight of a bucket isn't the sum of its items' weights.
+- `refused`: a map and a script with a command that crushedit refuses.
+
+In a command, `$C` is the program, and `$L` is a library that the command may preload. With this library, each sync of
+a file fails because the disk is full. The script compiles the library with the C compiler that the variable CC names,
+or with `cc` or `gcc`.
+
+For each case, the script compares three results: the status (if a signal ended the run, 128 plus the signal's number),
+the text on standard error, and how much of the output was written. With `--explain`, standard error must name each
+file that can't be opened or read, and the reason. For standard input, there is only a sentence. In some cases,
+standard error is a terminal. Then the reasons must be there without `--explain`.
+
+The script prints a line for each case with another result than the expected one, and its status is then 1. With
+--table, the script compares nothing, and prints the results of all cases as a table.
 """
 
 import os
@@ -26,6 +37,7 @@ from explained import unread_text  # noqa: E402
 from make_job import map_text, script  # noqa: E402
 
 READ, WRITE = "crushedit: read fault", "crushedit: write fault"
+# The status of a run that the signal SIGXFSZ, which has the number 25, has ended.
 FILE_SIZE = 128 + 25
 MISSING, FORBIDDEN = "No such file or directory (os error 2)", "Permission denied (os error 13)"
 FOLDER, BROKEN = "Is a directory (os error 21)", "Input/output error (os error 5)"
@@ -35,9 +47,9 @@ UNWRITTEN = (
     f"  standard output: {FULL}"
 )
 ADJUSTED = "type 1 host\nhost a { id -1 alg straw2 }\nhost b { id -2 alg straw2 item a weight 1 }\n"
-# Makes 4 the end for writing of a pipe whose only reader has closed its end.
+# Opens the descriptor 4 as the writing end of a pipe whose only reader has closed its end.
 NO_READER = "mkfifo pipe; exec 3<> pipe 4> pipe 3<&-"
-# What `$L` is made of.
+# The C source of the library `$L`.
 SYNC = """
 #include <errno.h>
 
@@ -49,8 +61,10 @@ int fsync(int fd) {
 JOBS = {"job": map_text(3) + script(3, 1), "large": map_text(2000) + script(2000, 1), "adjusted": ADJUSTED, "map": map_text(3) + "# end crush map\n",
         "refused": map_text(3) + "%operator alice\nrm nope\n"}
 REFUSED = "crushedit: refused 1\n# 1 alice rm nope = refused NoSuchItem 2"
-# What it is, the command, the status, standard error, and what of the output is written: all, none, or the
-# start of it; of the empty job all are 75 bytes. None where the command sends the output elsewhere.
+# The cases. Each has a title, the command, the expected status, the expected text on standard error, and how much of
+# the output of one of the jobs is written: `all`, `none`, or only the `start`. A number is the number of bytes of any
+# other output. (The text of the empty map has 75 bytes.) None means that the command sends the output to another
+# place.
 CASES = [
     ("FILE isn't there", "$C missing", 3, READ, "none"),
     ("FILE is a directory", "$C .", 3, READ, "none"),
@@ -122,13 +136,13 @@ CASES = [
     ("--explain, and standard input is closed", "$C --explain <&-", 3, unread_text("read fault"), "none"),
     ("--strict, and a command is refused", "$C --strict refused", 5, REFUSED, "none"),
 ]
-# The same where standard error is a terminal.
+# Cases in which standard error is a terminal.
 ON_TERMINAL = [
     ("FILE isn't there, and standard error is a terminal", "$C missing", 3, unread_text("read fault", "missing", MISSING), "none"),
     ("--strict, and a command is refused, and standard error is a terminal", "$C --strict refused", 5,
      f"{REFUSED}\n  nope doesn't exist", "none"),
 ]
-# What can't be tried as root, who may look into each folder.
+# Cases that root can't test, because root may enter every folder.
 OF_OTHERS = [
     ("--explain, and FILE is in a folder that may not be looked into",
      "mkdir -m 0 shut; $C --explain shut/job; status=$?; chmod 700 shut; exit $status", 3,
@@ -137,6 +151,10 @@ OF_OTHERS = [
 
 
 def written(out, whole):
+    """Returns how much of an output was written: `none`, `all`, `start`, or its number of bytes.
+
+    `whole` has the whole outputs of all jobs. The number is returned if `out` isn't the start of any of them.
+    """
     if not out:
         return "none"
     if out in whole:
@@ -145,7 +163,7 @@ def written(out, whole):
 
 
 def make_library(folder):
-    """The library with which no file can be synced."""
+    """Compiles the library with which each sync of a file fails, and returns its path."""
     compiler = os.environ.get("CC") or ("cc" if shutil.which("cc") else "gcc")
     library = os.path.join(folder, "sync.so")
     subprocess.run([compiler, "-shared", "-fPIC", "-x", "c", "-o", library, "-"], input=SYNC, text=True, check=True)
@@ -153,7 +171,7 @@ def make_library(folder):
 
 
 def has_terminals():
-    """Whether the system has terminals for tests."""
+    """Returns whether the system has terminals for the tests. If it hasn't, prints that cases are left out."""
     try:
         for end in pty.openpty():
             os.close(end)
@@ -164,7 +182,10 @@ def has_terminals():
 
 
 def shown_by(terminal):
-    """What a terminal shows to which nobody writes any more, with the ends of lines of a file."""
+    """Returns what was written to a terminal that nobody has open for writing any more, and closes the terminal.
+
+    Lines end with a line feed only, as in a file.
+    """
     shown = b""
     while True:
         try:
@@ -175,7 +196,7 @@ def shown_by(terminal):
 
 
 def ending(program, library, folder, command, is_on_terminal):
-    """The status, standard error and standard output of a case, in a folder of its own."""
+    """Runs the command of a case in a new folder. Returns its status, standard error and standard output."""
     terminal, errors = pty.openpty() if is_on_terminal else (None, subprocess.PIPE)
     with tempfile.TemporaryDirectory(dir=folder) as case:
         for name in JOBS:

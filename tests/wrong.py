@@ -1,25 +1,34 @@
 #!/usr/bin/env python3
-"""Tries the wrong bodies of the crates: the prover must refuse each of them.
+"""Lets the prover check the wrong bodies of the crates. The prover must refuse each of them.
 
     python3 tests/wrong.py [--jobs N] [--top FOLDER] [CRATE ..]
 
-A wrong body is an edit, a file of crates/NAME/wrong/ in the form that `rt must-fail` reads: a line `file: src/..`, then
-pairs of lines `old: TEXT` and `new: TEXT`. It changes a line or two of the sources so that a promise is broken. If the
-prover still accepts the edited function, then its contract doesn't carry the promise.
+A *wrong body* is a deliberate error in the sources of a crate, which breaks a promise of a contract. If the prover
+still accepts the function with the error, then no contract makes the promise. Each wrong body is a file of
+crates/NAME/wrong/, which this script calls an *edit*. The file has a line `file: src/..`, then pairs of lines
+`old: TEXT` and `new: TEXT`. The command `rt must-fail` reads files of the same form.
 
-`rt must-fail` checks the whole crate for each edit. This script applies all edits of a crate to one copy, at most one for
-each function, and asks for the edited functions alone (`rattle check --only`). A proof cites the contracts of other
-functions and never their bodies, so an edit of one function changes nothing for another. An edit waits for a further
-round if another edit of that round is in the same function, or if the prover says of its function only that it calls one
-that isn't proved. An edit outside of functions, as of a constant, is tried alone, with the whole crate.
+`rt must-fail` checks the whole crate for each edit. This script works in rounds instead. In each round, it applies as
+many edits of a crate as it can to one copy of the crate, but at most one edit for each function. Then it lets the
+prover check only the edited functions (`rattle check --only`). This is enough, because a proof uses the contracts of
+other functions, and never their bodies. So an edit of one function changes nothing for another function. In two cases,
+an edit waits for a further round: if the round already has an edit of the same function, or if the only complaint of
+the prover about the function is that it calls a function that isn't proved. An edit outside of functions, for example
+in a constant, has a round of its own, in which the prover checks the whole crate.
 
-The script works on copies, over the libraries that `rt ci` or `rt check` built for the crates below, and needs the crate
-itself to be proved. It tries N crates at a time (1 by default), prints a line for each edit that isn't refused for what
-it breaks, a line for each crate, and at the end `N passed, M failed`. It ends with status 1 if an edit
+The script works on copies of the sources. It needs the libraries that `rt ci` or `rt check` has built for all crates
+on which the crate depends. The crate itself must have been proved, too. --jobs says how many crates are checked at a
+time (1 by default). --top names another repository. Without a CRATE, the script checks all crates that have
+wrong bodies.
 
-- is still proved, or can't be applied, or can't be read by the prover;
-- is refused only because a proof names what the edit took away, or only by a limit of the prover;
-- could not be tried.
+The script prints a line for each edit that the prover doesn't refuse because of the broken promise, a line for each
+crate, and at the end `N passed, M failed`. The status is 1 if one of these is true for an edit:
+
+- The edited function is still proved.
+- The edit can't be applied, or the prover can't read the edited sources.
+- The prover refuses the function only because its proof names something that the edit has removed, or only because the
+  prover has reached one of its limits.
+- The edit couldn't be checked for another reason.
 """
 import argparse
 import collections
@@ -33,40 +42,50 @@ import sys
 import tempfile
 
 TOP = pathlib.Path(__file__).resolve().parent.parent
+# The first line of a function, with its indentation and its name, and the first line of an impl.
 FUNCTION = re.compile(r"^(\s*)(?:pub(?:\([^)]*\))?\s+)?(?:const\s+|unsafe\s+)*fn\s+(\w+)")
 IMPL = re.compile(r"^(?:unsafe\s+)?impl\b(.*)")
-# What the prover says of a function that it refuses for its own body, and of one that waits for another function alone.
+# What the prover says about a function that it refuses. WAITS matches if the only reason is another function, which
+# isn't proved.
 REFUSED = re.compile(r"not proved|no proof")
 WAITS = re.compile(r"(not proved|no proof): (it calls|it passes|a call of)")
-# A complaint about a proof that names what isn't there any more: it says nothing of the contract.
+# Complaints about a proof that names something which the edited sources don't have any more. Such a complaint says
+# nothing about the contract.
 NAMES_ALONE = re.compile(r"has no field|is not in scope|has no `|was not admitted")
+# What the prover says if it has reached one of its limits.
 LIMIT = re.compile(r"antt ran out of|outgrew the memory limit|stopped at the step limit")
 
 REFUSED_WELL = "refused"
 PROVED = "it is still proved"
 
-# Where an edit is: the module, the type of the impl if it is in one, and the function. Without a function it is outside.
+# Where an edit is: the module, the type of the impl (None if the edit is in no impl), and the function. The function
+# is None if the edit is outside of functions.
 Place = collections.namedtuple("Place", "module owner function")
 
 
 @dataclasses.dataclass(frozen=True)
 class Repository:
-    """A repository of crates, and the folder of the toolchain."""
+    """A repository of crates (`top`), and the folder of the toolchain (`kit`)."""
 
     top: pathlib.Path
     kit: pathlib.Path
 
     def crate(self, name):
+        """Returns the folder of a crate."""
         return self.top / "crates" / name
 
     def dependencies(self):
-        """The crates and libraries that each crate stands on, as crates.txt lists them."""
+        """Returns the crates and libraries on which each crate depends, as crates.txt lists them, by the crate's
+        name."""
         lines = (self.top / "crates.txt").read_text().splitlines()
         rows = [line.split(":") for line in lines if line and not line.startswith("#")]
         return {name.strip(): below.split() for name, below in rows}
 
     def below(self, name):
-        """All crates of the repository below this one, lowest first."""
+        """Returns all crates of the repository on which this crate depends, directly or through other crates.
+
+        Each crate comes after the crates on which it depends itself.
+        """
         stands_on, found = self.dependencies(), []
         for other in stands_on[name]:
             if other in stands_on:
@@ -74,7 +93,7 @@ class Repository:
         return found
 
     def check_command(self, name):
-        """The words of a check of this crate over the libraries that are built."""
+        """Returns the words of the command that checks this crate with the libraries that have been built."""
         stands_on = self.dependencies()
         root = "src/main.rt" if (self.crate(name) / "src/main.rt").exists() else "src/lib.rt"
         words = [self.kit / "bin/rattle", "check", "--crate-name", name, root]
@@ -88,21 +107,21 @@ class Repository:
 
 
 def module_of(path):
-    """The module that a file of src/ is, and nothing of the root."""
+    """Returns the module of a file of src/, or the empty text for the root of the crate."""
     module = path.removeprefix("src/").removesuffix(".rt").replace("/", "::")
     return "" if module in ("lib", "main") else module
 
 
 def plain_type(text):
-    """The name of a type, without its path and its parameters."""
+    """Returns the name of a type without its path and its parameters."""
     return re.sub(r"<.*", "", text.strip().lstrip("&")).split("::")[-1].strip()
 
 
 def impl_owner(head, module, folder):
-    """The module and the name below which the prover lists the methods of an impl.
+    """Returns the module and the name under which the prover lists the methods of an impl.
 
-    Methods of a type are listed in the module that declares the type, below its name; methods of a trait in the module of
-    the impl, below the names of type and trait together.
+    The prover lists the methods of a type in the module that declares the type, under the name of the type. It lists
+    the methods of a trait in the module of the impl, under the name of the type followed by the name of the trait.
     """
     text = re.sub(r"^\s*<(?:[^<>]|<[^<>]*>)*>", "", head).strip().removesuffix("{").split(" where ")[0]
     first, _, second = text.partition(" for ")
@@ -116,7 +135,8 @@ def impl_owner(head, module, folder):
 
 
 def place_of(text, offset, path, folder):
-    """The place of a byte of a file."""
+    """Returns the place of a byte of a file. `offset` is the number of bytes before it, and `path` is the file's
+    path."""
     module, function = module_of(path), None
     for line in reversed(text[: text.find("\n", offset)].split("\n")):
         if function is None:
@@ -132,9 +152,11 @@ def place_of(text, offset, path, folder):
 
 
 def applied(edit, folder, given):
-    """The texts that an edit makes of the files of a crate, and its places; no texts if it can't be applied.
+    """Returns the new texts of the files that an edit changes, and the edit's places.
 
-    `given` has the files that other edits of this round have changed already.
+    If the edit can't be applied, there are no texts.
+
+    `given` has the texts of the files that other edits of this round have already changed.
     """
     texts, places, path, old = {}, set(), None, None
     for line in edit.read_text().split("\n"):
@@ -152,17 +174,19 @@ def applied(edit, folder, given):
 
 
 def path_of(place):
+    """Returns the path of a place, with `::` between its parts, as the prover prints it after the crate's name."""
     return "::".join(it for it in place if it)
 
 
 def is_outside(places):
+    """Returns whether one of the places is outside of functions."""
     return any(it.function is None for it in places)
 
 
 def choose(edits, folder, results):
-    """The edits of the next round with their places, and the texts of the files with all of them applied.
+    """Returns the edits of the next round with their places, and the texts of the files after these edits.
 
-    Notes in `results` which edits can't be applied at all.
+    Adds to `results` the edits that can't be applied at all.
     """
     chosen, texts = {}, {}
     for edit in edits:
@@ -181,14 +205,14 @@ def choose(edits, folder, results):
 
 
 def complaints_of(said, places):
-    """The lines of the prover that complain of these functions' proofs."""
+    """Returns the lines of the prover's output that complain about the proofs of the functions at these places."""
     folders = ["proofs/" + path_of(it).replace("::", "/") + "/" for it in places]
     lines = [line for line in said.split("\n") if re.match(r"(note: )?(\./)?\S+:\d+:\d+:", line)]
     return [line for line in lines if any(folder in line for folder in folders)]
 
 
 def verdict(said, crate, places):
-    """What the prover's words say of an edit, or None if it has to wait for another round."""
+    """Returns what the prover's output `said` means for an edit, or None if the edit must wait for another round."""
     names = {f"{crate}::{path_of(it)}" for it in places}
     found = re.findall(r"(?m)^fn (\S+): (.*)$", said)
     told = [words for name, words in found if is_outside(places) or name in names]
@@ -204,7 +228,7 @@ def verdict(said, crate, places):
 
 
 def unread(said):
-    """The line in which the prover says that it can't read the edited sources, if any."""
+    """Returns the line in which the prover says that it can't read the edited sources, or None."""
     lines = said.split("\n")
     if any(line.startswith("fn ") for line in lines):
         return None
@@ -212,7 +236,10 @@ def unread(said):
 
 
 def try_edits(crate, edits, folder, check):
-    """What each edit comes to, round by round. `check` runs the prover in a folder, and returns what it says."""
+    """Checks edits of a crate in rounds, and returns the result of each edit.
+
+    `check` runs the prover in a folder, and returns its output.
+    """
     results, left = {}, list(edits)
     with tempfile.TemporaryDirectory(prefix="wrong-") as room:
         while left:
@@ -222,7 +249,8 @@ def try_edits(crate, edits, folder, check):
                 found = {edit: verdict(said, crate, places) for edit, places in chosen.items()}
                 results |= {edit: it for edit, it in found.items() if it}
                 if not any(found.values()):
-                    # Nothing is known of any of them: one that stands alone can't be tried.
+                    # The output says nothing about any edit of this round. If it is a single edit, it can't be
+                    # checked. Otherwise, each edit is checked alone.
                     why = unread(said) or (said.strip().split("\n") or [""])[-1]
                     what = "only a limit of the prover refuses it" if LIMIT.search(said) else "it couldn't be tried"
                     lone = next(iter(chosen))
@@ -235,6 +263,7 @@ def try_edits(crate, edits, folder, check):
 
 
 def each_alone(crate, edits, folder, check):
+    """Checks each edit in rounds of its own, and returns the result of each edit."""
     results = {}
     for edit in edits:
         results |= try_edits(crate, [edit], folder, check)
@@ -242,7 +271,7 @@ def each_alone(crate, edits, folder, check):
 
 
 def check_round(chosen, texts, folder, room, check):
-    """Copies the crate with these texts, and asks the prover for the edited functions."""
+    """Copies the crate with these texts, lets the prover check the edited functions, and returns its output."""
     copy = room / "crate"
     shutil.rmtree(copy, ignore_errors=True)
     for part in ("src", "specs", "proofs"):
@@ -256,7 +285,7 @@ def check_round(chosen, texts, folder, room, check):
 
 
 def of_crate(repository, crate):
-    """The lines to print of a crate, and how many of its edits were refused and how many weren't."""
+    """Checks the edits of a crate. Returns the lines to print, how many edits were refused, and how many weren't."""
     edits, checks = sorted((repository.crate(crate) / "wrong").glob("*.edit")), []
 
     def check(only, folder, kept):
@@ -273,6 +302,7 @@ def of_crate(repository, crate):
 
 
 def toolchain():
+    """Returns the folder of the toolchain."""
     page = subprocess.run(["rt", "doc"], stdout=subprocess.PIPE, text=True, check=True).stdout.strip()
     return pathlib.Path(page).parent
 

@@ -1,9 +1,13 @@
 #!/usr/bin/env python3
-"""Tries wrong.py on small crates, each of which has edits of one kind, and compares what it says of each edit.
+"""Tests the script wrong.py on small crates, and compares what it prints with what it should print.
 
     python3 tests/wrong_test.py
 
-It needs the toolchain alone, writes the crates into a temporary folder, and takes about a minute of a processor.
+A *wrong body* is a deliberate error in a function, which the prover should refuse. Each wrong body is a file, which is
+called an *edit*. Each test case writes a crate and its edits into a temporary folder. The edits of each crate show one
+kind of result.
+
+The script needs only the toolchain, and takes about a minute of processor time. The status is 1 if a test case fails.
 """
 import pathlib
 import subprocess
@@ -90,7 +94,11 @@ returns c = c.next.ensures
 
 class WrongBodies(unittest.TestCase):
     def said_of(self, crate, source, edits, proofs=()):
-        """What wrong.py prints of a crate with these edits, and its status."""
+        """Runs wrong.py on a crate with these edits. Returns the lines that wrong.py prints, and its status.
+
+        `source` is the text of the crate after HEAD. `edits` has the old and the new text of each edit, by the edit's
+        name. `proofs` are pairs of the path and the text of a file with proofs.
+        """
         with tempfile.TemporaryDirectory() as top:
             folder = pathlib.Path(top, "crates", crate)
             for below in ("src", "wrong"):
