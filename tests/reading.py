@@ -96,8 +96,8 @@ class Reader:
     def take(self, *faults):
         """Takes the next word and returns it.
 
-        Each of `faults` is the name of a fault, and a function that says whether a word has this fault. If the word
-        has one of these faults, or is BAD or END, raises Fault with the fault that has the lowest number.
+        Each of `faults` is a pair of a fault's name and a function that says whether a word has this fault. If the
+        word has one of these faults, or is BAD or END, raises Fault with the fault that has the lowest number.
         """
         place, word = self.left[-1]
         tests = dict([("BadWord", lambda w: w == BAD), ("Ended", lambda w: w == END), *faults])

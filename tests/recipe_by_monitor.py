@@ -4,8 +4,8 @@
 
 Each test case is a function below. Some test cases give the recipe a map or a command for which one of its checks must
 stop the recipe. Others set the new map with the command that the recipe prints, and then look at the monitor's map. If
-OSDs (the server processes of disks) run, one test case compares the placement groups (PGs, the parts of the data) that
-the recipe has announced with those that have moved.
+OSDs (the server processes of disks) run, one test case counts the placement groups (PGs, the parts of the data) that
+have moved, and compares these numbers with those that the recipe has announced.
 
 The script needs root, and a monitor that `tests/monitor.sh start` has started in FOLDER. The OSDs run if
 `tests/monitor.sh osds` has started them too. RECIPE is the path of another copy of bin/crushedit-recipe.
@@ -180,7 +180,8 @@ def names_that_the_recipe_sets(trial):
 def exact_weights(trial):
     """Checks that three runs of the recipe change no weight of 300 devices except for the weight that they set.
 
-    Also prints how many of these weights would change if only `crushtool` decompiled and compiled the map once.
+    There are two maps, whose weights have four and five decimals. Also prints how many of these weights would change
+    if only `crushtool` decompiled and compiled the map once.
     """
     dice = random.Random(1)
     trial.monitor.asked("osd", "setmaxosd", "400")
@@ -283,7 +284,7 @@ def placed(trial):
 
 
 def what_moves(trial):
-    """Checks that exactly those PGs move that the recipe announces for each pool.
+    """Checks that as many PGs, and as many of their replicas or shards, move as the recipe announces for each pool.
 
     Also checks that the recipe stops if PGs would get fewer devices than before.
     """

@@ -26,7 +26,7 @@ import unittest
 sys.dont_write_bytecode = True
 HERE = pathlib.Path(__file__).resolve().parent
 MAP = (HERE.parent / "examples/example.txt").read_text()
-# How the printed commands end that set the new map, and that go back to the old map.
+# The ends of two commands that the recipe prints: SET sets the new map, and BACK goes back to the old map.
 SET = " osd setcrushmap -i - {} < {}/new.bin\n"
 BACK = " osd setcrushmap -i - {} < {}/map.bin\n"
 # MAP with a device of the class hdd. The rule of this map takes the root `default` with this class.

@@ -4,8 +4,8 @@
 
 The script compiles a C library and preloads it in each run. In one run, the library refuses the first request for
 memory of the process, in the next run the second request, and so on. The last run makes fewer requests than the number
-of the refused request. Each job runs without options, so that its operators run at once, and with --in-turn. A run
-must end in one of two ways:
+of the refused request. Each job is tested in two modes: without options, so that its operators run at once, and with
+--in-turn. A run must end in one of two ways:
 
 - The run ends with status 4, without output, and with the one line on standard error that is expected below.
 - The run ends exactly as the same run without a refused request. If several operators run at once, the order of their

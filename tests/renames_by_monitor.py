@@ -6,11 +6,11 @@ A *class tree* is Ceph's copy of a bucket for a device class. The copy has only 
 the name of the bucket, followed by `~` and the class. The test needs root, and a monitor that `tests/monitor.sh start`
 has started in FOLDER.
 
-The monitor gets N random maps, one after the other. Each map has rules that take buckets with a class. A script of
-`rename-bucket` commands gives new names to these buckets. The test sends the monitor the commands that `--as-ceph`
+The monitor gets N random maps, one after the other. Each map has rules with a step `take BUCKET class CLASS`. A script
+of `rename-bucket` commands gives new names to these buckets. The test sends the monitor the commands that `--as-ceph`
 prints for the script, and the monitor must accept each of them. After that, the name of each class tree must begin
-with the name of a bucket of the map. In the text that `crushtool -d` prints of the monitor's map, the rules must take
-the buckets with the new names.
+with the name of a bucket of the map. In the text that `crushtool -d` prints of the monitor's map, the steps `take`
+must have the new names.
 
 With --leave-out, the test doesn't send the commands `reweight-all`. Then some class trees keep their old names, which
 shows that the test notices such names.
@@ -40,8 +40,8 @@ RULE = """rule taken{number} {{
 
 
 def with_rules(text, dice):
-    """Adds rules to the text of a map, each of which takes one bucket with a class. Returns the new text and the names
-    of these buckets."""
+    """Adds rules to the text of a map, each with a step `take BUCKET class CLASS` for another bucket. Returns the new
+    text and the names of these buckets."""
     names = re.findall(r"(?m)^(?:host|rack|row|root|room) (\S+) \{$", text)
     taken = dice.sample(names, min(len(names), dice.choice((1, 2, 3))))
     rules = "".join(RULE.format(number=number, id=number + 10, bucket=name, kind=dice.choice(CLASSES)) for number, name in enumerate(taken))
@@ -68,7 +68,7 @@ def main():
         try:
             text = monitor.take(text)
         except Failed:
-            continue  # A rule of this map takes a class that no device below the bucket has.
+            continue  # The map is refused, because a rule takes a class that no device below the bucket has.
         maps += 1
         script = "%operator a\n" + "".join(f"rename-bucket {name} new-{name}\n" for name in taken)
         for line in edited(program, text, script, "--as-ceph").splitlines():

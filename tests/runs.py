@@ -79,8 +79,10 @@ def without_blank_end(lines):
 
 
 def spelled(lines, texts, place):
-    """Yields the lines, with the lines of a text in place of each line `@NAME`. `place` is named if there is no such
-    text."""
+    """Yields the lines, with the lines of a text in place of each line `@NAME`.
+
+    If there is no such text, ends the script with a message that names `place`.
+    """
     for line in lines:
         if line.startswith("@"):
             if line[1:] not in texts:
@@ -147,8 +149,10 @@ def read_sessions(topics):
 
 
 def is_as(lines, text):
-    """Returns whether an output has the expected lines. A line `...`, and `...` at the end of a line, stand for any
-    text."""
+    """Returns whether an output has the expected lines.
+
+    A line `...` stands for any number of lines, and `...` at the end of a line stands for any rest of this line.
+    """
     if not any(line.endswith(GAP) for line in lines):
         return "".join(f"{line}\n" for line in lines) == text
     forms = []

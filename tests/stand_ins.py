@@ -91,7 +91,8 @@ def printed(text):
 
 
 def dump(text):
-    """Returns the JSON that `crushtool --dump` prints: devices, buckets with their items, and the takes of rules."""
+    """Returns the JSON that `crushtool --dump` prints: devices, buckets with their items, and the steps `take` of
+    rules."""
     if has("dump") and text == text_of("cluster"):
         return text_of("dump")
     ids, rules, buckets = {name: int(number) for number, name in re.findall(r"(?m)^device (\d+) (\S+)", text)}, [], []
@@ -114,8 +115,8 @@ def placed(text, size):
 
 
 def tested(text, words):
-    """Prints what `crushtool --test` prints: all placements with --show-mappings, otherwise those that lack a
-    device."""
+    """Does the work of `crushtool --test`. With --show-mappings, prints all placements, and otherwise those that lack
+    a device."""
     size = words[words.index("--num-rep") + 1]
     if has("broken-new") and size == "2" and text != text_of("cluster"):
         os.kill(os.getpid(), signal.SIGSEGV)

@@ -18,8 +18,8 @@ in a constant, has a round of its own, in which the prover checks the whole crat
 
 The script works on copies of the sources. It needs the libraries that `rt ci` or `rt check` has built for all crates
 on which the crate depends. The crate itself must have been proved, too. --jobs says how many crates are checked at a
-time (1 by default). --top names another repository. Without a CRATE, the script checks all crates that have
-wrong bodies.
+time (1 by default). --top names another repository. Without a CRATE, the script checks all crates that have wrong
+bodies.
 
 The script prints a line for each edit that the prover doesn't refuse because of the broken promise, a line for each
 crate, and at the end `N passed, M failed`. The status is 1 if one of these is true for an edit:
@@ -154,9 +154,8 @@ def place_of(text, offset, path, folder):
 def applied(edit, folder, given):
     """Returns the new texts of the files that an edit changes, and the edit's places.
 
-    If the edit can't be applied, there are no texts.
-
-    `given` has the texts of the files that other edits of this round have already changed.
+    If the edit can't be applied, there are no texts. `given` has the texts of the files that other edits of this round
+    have already changed.
     """
     texts, places, path, old = {}, set(), None, None
     for line in edit.read_text().split("\n"):
