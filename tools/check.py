@@ -1,18 +1,35 @@
 #!/usr/bin/env python3
-"""Looks whether what docs/ and README.md name is there.
+"""Compares the pages (docs/, README.md, CONTRIBUTING.md and others) with the sources.
 
-Each name in backticks has to be declared in the crates of the product: a function, a type, a definition, a clause, a
-file or an edit that must fail, or be a job of examples/. A name of a test counts on a line that names a crate of tests.
-Pages of WORDS_OF_TEXTS, which name words of jobs and of Ceph too, are left out. Each link leads to a file, and to a heading of it. CONTRIBUTING.md lists the files that an addition touches: each has
-to be there, and each file of src/, specs/ and proofs/ that names all variants of an enum of ADDED, or all words of a row
-of NAMED, has to stand in its section. Each public function that may answer one of several faults, or fails and is lent
-what it changes, has a clause that says which and what is left, by the names that PROVED.md tells, or is told there to
-have none. Each must-fail edit has a function of its crate in its name. What pages tell in words and numbers told.py
-compares. The index of examples/ names each job and each folder. The table of docs/ARCHITECTURE.md has each crate in a layer,
-and each call of code between layers. The version of the command line stands in VERSIONS; what the scripts of MADE_BY write is
-what they would write now; and `--version` and PROVED.md name the toolchain, where `rt` is there to tell its line.
-paths.py looks whether each path is there that a page, a script or a comment names.
-Prints what is missing, and ends with status 1 where anything is.
+    python3 -B tools/check.py
+
+The script needs only Python 3. If the toolchain's command `rt` is installed, the script also runs `rt version`. The
+script prints one line for each fault that it finds. The status is 1 if it has found a fault. It checks the following:
+
+- Names. If a page of docs/ or CONTRIBUTING.md has a name in backticks, the crates must declare this name, for example
+  as a function, a type, a definition or a clause of a contract. The name may also be the name of a crate, of a file of
+  a crate or of a job of examples/, or a word in a code block of the same page. The crates of tests don't count, except
+  on a line that names a crate of tests. The pages of WORDS_OF_TEXTS are left out, because they also have words of jobs
+  and words of Ceph in backticks.
+- Files. If one of these pages has a file or a folder in backticks, the repository must have it.
+- Links. Each link must lead to a file, and to a heading of this file if the link names one.
+- Additions. CONTRIBUTING.md lists the files that each kind of addition touches. If a file in src/, specs/ or proofs/
+  of a crate has all variants of an enum of ADDED, or all words of a list of NAMED, the section must list the file.
+- Contracts. If a public function has several possible errors, a clause of its contract must say which error the
+  function returns. If a public function can fail and has a `&mut` argument, a clause must say what the argument is
+  after an error. TOLD and LEFT have the names of these clauses. PROVED.md must explain these clauses, and must list
+  each function that needs such a clause and has none. PROVED.md must also list the functions that may wait.
+- Wrong bodies. A *wrong body* is a deliberate error that the prover must refuse. The name of its file must contain the
+  name of a function of its crate.
+- Examples. examples/README.md must name each folder of examples/, and each job of examples/ and examples/worked/.
+- Layers. The table of docs/ARCHITECTURE.md must put each crate into a layer, except for programs, crates of tests and
+  the crate `crush`. The table must also list the calls between layers.
+- Versions. Each file of VERSIONS must have the version that `crushedit --version` prints. If `rt` is installed, then
+  `crushedit --version` and PROVED.md must name the logic (the version of the prover's rules) that `rt version` prints.
+- Written files. The files that the scripts of MADE_BY write must be what the scripts would write now.
+
+The script also runs told.py, which compares further statements of the pages with the sources. And it runs paths.py,
+which checks each path that a page, a script or a comment names.
 """
 import re
 import shutil
@@ -25,37 +42,46 @@ from sources import contracts, crate_files, fields_of_records, files_below, know
 from paths import path_faults  # noqa: E402
 from told import told_faults  # noqa: E402
 
-# A name alone, with the types or modules that it stands in, and perhaps with its brackets.
+# One name. The types or modules that contain it may come first, and `()` may follow.
 NAME = re.compile(r"^[A-Za-z_][A-Za-z0-9_]*(?:(?:::|\.)[A-Za-z_][A-Za-z0-9_]*)*(?:\(\))?$")
 # A file or a folder of the repository.
 FILE = re.compile(r"^(?:[a-z0-9_./-]*/[A-Za-z0-9_./+-]*|[A-Za-z0-9_]+\.(?:md|rt|antt|txt|job|py|edit))$")
-# The sections of CONTRIBUTING.md, each with the enum that grows by what it adds.
+# For each of these sections of CONTRIBUTING.md: the file and the name of the enum that gets a new variant by the
+# addition that the section describes.
 ADDED = {
     "An edit": ("crush_edits/src/edit.rt", "Edit"),
     "A refusal": ("crush_edits/src/refusal.rt", "Refusal"),
     "A fault of a text": ("crush_text/src/fault.rt", "TextFaultKind"),
     "A fault of a job": ("crush_script/src/fault.rt", "JobFault"),
 }
-# Sections that name the files of what has been added most lately, by the words that such a file has.
+# Sections of CONTRIBUTING.md about additions that belong to no single enum, each with lists of words. The section must
+# list each file of the crates that has all words of one of the lists.
 NAMED = {
     "A column": [["set_name", "set_class"]],
     "A call or a reply": [["BatchRefused", "Stale"], ["Batch", "Guarded"]],
 }
+# The files that name the version of the program, each with the text that it must have. `{}` is the version.
 VERSIONS = {
     "CHANGELOG.md": "## {}\n", "man/crushedit.1": '"crushedit {}"', "man/crushedit-recipe.1": '"crushedit {}"',
     "docs/user/FORMATS.md": "`crushedit {}`", "README.md": "`out/crushedit-{}-linux-x86_64.tar.gz`",
 }
+# The section of CHANGELOG.md that has the changes since the newest version.
 TO_COME = "To come"
-# The clauses that say which of several faults is told, and those that say what is left of what a call was lent.
+# The names of the clauses that say which of several possible errors a function returns (TOLD), and of the clauses that
+# say what a `&mut` argument is after an error (LEFT).
 TOLD = {"refused", "fault", "flaw", "full", "none", "memory"}
 LEFT = {"unchanged", "as_before", "err", "nothing", "writes"}
-# What a function answers in the place of a Result, and the fault in it.
+# Types that a function may return in place of a `Result`, each with the type of the error that it can have.
 ENDINGS = {"Ending": "RunFault"}
+# The scripts of tools/ that write files from the sources.
 MADE_BY = ["manual.py", "completion.py", "signatures.py"]
 
 
 def naming_all(names):
-    """The files of src/, specs/ and proofs/, but for those of tests, that name all of these, from the crate down."""
+    """Yields the files in src/, specs/ and proofs/ that have all these words, as paths below crates/.
+
+    Crates of tests are left out.
+    """
     for path in crate_files():
         crate, folder = path.relative_to(TOP / "crates").parts[:2]
         if folder in {"src", "specs", "proofs"} and not crate.endswith("_tests"):
@@ -64,13 +90,13 @@ def naming_all(names):
 
 
 def anchors(text):
-    """What a link may name of a page: its headings, as they are written in one."""
+    """Returns the words that a link can have after `#`: the headings of a page, in the form that links use."""
     heads = re.findall(r"(?m)^#+ (.*)$", re.sub(r"```.*?```", "", text, flags=re.S))
     return {re.sub(r"[^\w -]", "", head.lower()).replace(" ", "-") for head in heads}
 
 
 def link_faults(page):
-    """Which links of a page lead to no file, or to no heading of one."""
+    """Yields the links of a page that lead to no file, or to no heading of the file. Web links aren't checked."""
     for link in re.findall(r"\]\(([^)\s]+)\)", page.read_text()):
         file, _, anchor = link.partition("#")
         to = page.parent / file if file else page
@@ -79,7 +105,7 @@ def link_faults(page):
 
 
 def example_faults():
-    """Which jobs and folders the index of the examples doesn't name."""
+    """Yields the jobs and folders that examples/README.md doesn't name."""
     named = set(quoted(re.sub(r"```.*?```", "", (TOP / "examples/README.md").read_text(), flags=re.S)))
     for job in sorted([*(TOP / "examples").glob("*.job"), *(TOP / "examples/worked").glob("*.job")]):
         if not {job.name, job.stem} & named:
@@ -90,7 +116,10 @@ def example_faults():
 
 
 def version_faults():
-    """Where another version stands than the one that the command line tells, and whether the toolchain's line is told."""
+    """Yields the files that don't have the version which the command line prints.
+
+    If `rt` is installed, also checks that `crushedit --version` and PROVED.md name the logic of the toolchain.
+    """
     version, toolchain = re.search(r'VERSION: &str = "(\S+) \((.+)\)"', (TOP / COMMAND_LINE).read_text()).groups()
     for name, form in VERSIONS.items():
         if form.format(version) not in (TOP / name).read_text():
@@ -108,7 +137,7 @@ def version_faults():
 
 
 def made_faults():
-    """What the scripts say that write pages out of the crates."""
+    """Yields the messages of the scripts of MADE_BY, which with --check report files that aren't up to date."""
     for script in MADE_BY:
         command = [sys.executable, "-B", str(TOP / "tools" / script), "--check"]
         told = subprocess.run(command, capture_output=True, text=True, check=False).stderr
@@ -116,7 +145,11 @@ def made_faults():
 
 
 def edit_faults():
-    """The must-fail edits whose names have no function of their crate, by which they are found, but for those of `{}`."""
+    """Yields the wrong bodies whose file names have no function of their crate.
+
+    People search for the wrong bodies of a function by the function's name. A name that begins with `display_` is
+    allowed: such a wrong body is in code that prints a value with `{}`.
+    """
     for folder in sorted([*TOP.glob("crates/*/must-fail"), *TOP.glob("crates/*/wrong")]):
         sources = "".join(path.read_text() for path in (folder.parent / "src").rglob("*.rt"))
         functions = set(re.findall(r"\bfn (\w+)", sources))
@@ -126,13 +159,17 @@ def edit_faults():
 
 
 def told_of(head):
-    """The fault type that a function's head answers, if any."""
+    """Returns the name of the error type that a function with this head returns, or None if there is none."""
     found = re.search(r"-> Result<.*?(\w+)(?:<\w+>)?>\s*(?:where|requires|ensures|//|$)", head, re.S)
     return found[1] if found else next((ENDINGS[name] for name in ENDINGS if re.search(rf"-> {name}\b", head)), None)
 
 
 def call_faults():
-    """Which calls have no clause that says which of several faults is told, or what is left, and aren't told of in PROVED.md."""
+    """Yields the functions that lack a clause about their errors and aren't in PROVED.md's list of such functions.
+
+    Also yields the clauses of TOLD and LEFT that PROVED.md doesn't explain, and the functions for which PROVED.md is
+    wrong about whether they may wait. A function may wait only if its head names the trait `Wait`.
+    """
     section = sections_of("PROVED.md")["Each public function"]
     sources, named, waiting = "".join(path.read_text() for path in crate_files()), set(quoted(section)), set()
     without, records = set(quoted(section.partition("### Functions without such a clause")[2])), fields_of_records()
@@ -155,7 +192,7 @@ def call_faults():
 
 
 def adding_faults():
-    """What is wrong with the lists of files of CONTRIBUTING.md."""
+    """Yields the files that a section of CONTRIBUTING.md about an addition has to list, and doesn't list."""
     sections = {title: quoted(section) for title, section in sections_of(CONTRIBUTING, "###").items()}
     wanted = {title: [variants(name, enum)] for title, (name, enum) in ADDED.items()}
     for title, names in {**wanted, **NAMED}.items():
@@ -165,7 +202,10 @@ def adding_faults():
 
 
 def calls_of(crate):
-    """The crates of this repository whose items the code of a crate names."""
+    """Returns the other crates of this repository whose items the code of a crate names.
+
+    Lines that begin a comment or a clause of a contract don't count, and neither do lines that begin with `ghost`.
+    """
     named = set()
     for path in (TOP / "crates" / crate / "src").rglob("*.rt"):
         code = "\n".join(line for line in path.read_text().splitlines() if not line.strip().startswith(("ghost", "//", "ensures", "requires")))
@@ -174,7 +214,11 @@ def calls_of(crate):
 
 
 def layer_faults():
-    """What is wrong with the table of the layers: a crate without a layer, or calls that differ from those of the code, or go upward."""
+    """Yields what is wrong with the table of layers in docs/ARCHITECTURE.md.
+
+    A crate may have no layer, or the column of calls may differ from the calls of the code. Or a layer may call a
+    layer that is higher up in the table.
+    """
     rows = re.findall(r"(?m)^\| ([a-z ]+) \| (`crush.*?) \| .*? \| (.*?) ?\| \[", (TOP / "docs/ARCHITECTURE.md").read_text())
     layers = {layer: quoted(crates) for layer, crates, _ in rows}
     layer_of = {crate: layer for layer, crates in layers.items() for crate in crates}
@@ -203,7 +247,7 @@ def main():
             known = words | set(re.findall(r"\w+", blocks)) | (of_tests if re.search(r"`crush_\w+_tests`", line) else set())
             for name in quoted(line):
                 if re.search(r"\b[A-Z]{4,}\b", name.replace("_", " ")):
-                    continue  # capitals stand for any name
+                    continue  # a word of four or more capital letters stands for any name
                 if FILE.match(name):
                     if not any(f"/{file}".endswith("/" + name.strip("/")) for file in files):
                         faults.append(f"{page.name}: no file {name}")

@@ -1,10 +1,17 @@
 #!/usr/bin/env python3
-"""Writes the completions for bash, zsh and fish, completions/crushedit.{bash,zsh,fish}, out of the help of crates/crush_options.
+"""Writes the completions for bash, zsh and fish, completions/crushedit.{bash,zsh,fish}, out of the help of
+crates/crush_options.
 
-The first word is completed to a verb or a file's name. A word that begins with `-` is completed to the options of the verb
-that the line begins with, or to those of the plain command line, except for those that can't come again. Any other word is
-completed as a file's name, and so is the value of an option that names a file. With --check nothing is written, and the
-status is 1 if a file has other bytes.
+    python3 tools/completion.py [--check]
+
+With these files, a shell completes the words that a user types. The first word is completed to a verb or to the name
+of a file. A word that begins with `-` is completed to an option. If the line begins with a verb, the shell offers the
+options of this verb, and otherwise the options of a command line without a verb. bash and zsh don't offer an option a
+second time if it can be given only once. Any other word is completed to the name of a file, and so is the value of an
+option that names a file.
+
+The script needs only Python 3. With --check the script writes nothing, and the status is 1 if a file isn't what the
+script would write.
 """
 import pathlib
 import sys
@@ -13,7 +20,9 @@ sys.dont_write_bytecode = True
 from manual import SCRIPT, SOURCE, verbs, words_of
 
 FOLDER = pathlib.Path(__file__).resolve().parent.parent / "completions"
+# The names that the help gives to those values of options that are names of files.
 FILES = {"FILE", "MAP", "SCRIPT"}
+# The first line of each file, and the texts of the three files. The parts in braces are filled in below.
 HEAD = "# Completion of crushedit's command line for {shell}, as tools/completion.py makes it of the help.\n"
 BASH = """\
 {head}
@@ -90,17 +99,24 @@ end
 
 
 def typed(head):
-    """The ways to type an option, and the name of its value, empty if it has none."""
+    """Returns the words for an option, such as `-s` and `--script`, and the name of its value.
+
+    The name is empty if the option has no value.
+    """
     words = head.replace(",", "").split()
     return [word for word in words if word.startswith("-")], words[-1] if words[-1].isupper() else ""
 
 
 def lines_of_verbs():
-    """The options of each verb, and those of the plain command line at the end, behind the name `*`."""
+    """Returns the name of each verb with the options of the verb.
+
+    The last pair has the name `*`, and the options of a command line without a verb.
+    """
     return [*((verb.name, verb.options) for verb in verbs()), ("*", words_of(SOURCE.read_text()))]
 
 
 def bash():
+    """Returns the text of the file for bash."""
     values = {}
     for _, options in lines_of_verbs():
         for head, _ in options:
@@ -118,16 +134,17 @@ def bash():
 
 
 def quoted(text):
-    """A text within single quotes of a shell."""
+    """Returns a text in single quotes, as a shell reads it."""
     return "'" + text.replace("'", "'\\''") + "'"
 
 
 def bracketed(text):
-    """A text within brackets of a specification of zsh."""
+    """Returns a text in brackets, as zsh reads it in the specification of an option."""
     return "[" + "".join("\\" + it if it in "[]:\\" else it for it in text) + "]"
 
 
 def zsh_option(head, text):
+    """Returns the specification of an option for zsh's function `_arguments`."""
     words, value = typed(head)
     action = f":{value}:{'_files' if value in FILES else ' '}" if value else ""
     long = "=" if value else ""
@@ -140,6 +157,7 @@ def zsh_option(head, text):
 
 
 def zsh():
+    """Returns the text of the file for zsh."""
     described = "".join(f"        {quoted(f'{verb.name}:{verb.about}')}\n" for verb in verbs())
     files = {verb.name: [*(quoted(f"{number}:{name}:_files") for number, (name, _) in enumerate(verb.files, 1)),
                          *([quoted(f"*:{verb.more_files[0]}:_files")] if verb.more_files else [])] for verb in verbs()}
@@ -153,6 +171,7 @@ def zsh():
 
 
 def fish_option(verb, head, text):
+    """Returns the line that makes fish offer an option after a verb, or without a verb if `verb` is `plain`."""
     words, value = typed(head)
     names = " ".join(f"-l {word[2:]}" if word.startswith("--") else f"-s {word[1:]}" for word in words)
     kind = "" if not value else " -r -F" if value in FILES else " -x"
@@ -160,6 +179,7 @@ def fish_option(verb, head, text):
 
 
 def fish():
+    """Returns the text of the file for fish."""
     lines = "".join(f"complete -c crushedit -n __crushedit_first -a {verb.name} -d {quoted(verb.about)}\n" for verb in verbs())
     for name, options in lines_of_verbs():
         lines += "".join(fish_option("plain" if name == "*" else name, *option) for option in options)

@@ -1,13 +1,23 @@
 #!/usr/bin/env python3
-"""Measures what each crate costs the gate, and writes the table of CONTRIBUTING.md out of such a log.
+"""Measures how long the prover takes for each crate, and writes these times into CONTRIBUTING.md.
 
     python3 tools/costs.py --watch LOG PROCESS
     python3 tools/costs.py LOG
 
-With --watch, as long as that process lasts or until it is ended, LOG has a line for each crate, `NAME WHAT SECONDS`:
-the processor seconds of the provers that the process started, by what they are at: `proof`, `tests` or `edits`. They
-are looked at each second, so a prover's last second is missed. Without it the table between the two comments
-of CONTRIBUTING.md is made of LOG: a row for each crate, and one of sums.
+With --watch, the script measures and writes the file LOG. PROCESS is the id of a process, such as the process of the
+gate (`make check`). The script looks at all provers that this process has started, directly or through other
+processes. It runs until the process ends, or until somebody ends the script. Each line of LOG has the form `CRATE WHAT
+SECONDS`. WHAT is `proof`, `tests` or `edits`, and `edits` stands for the wrong bodies, which are deliberate errors
+that the prover must refuse. SECONDS is the sum of the processor seconds that the provers took for this.
+
+The script looks at the provers once a second, so the last second of a prover can be missing from the sum. The script
+writes LOG about every ten seconds, so LOG can lack the last seconds before the process ends.
+
+Without --watch, the script reads LOG, and writes a table between the comments BEGIN and END of CONTRIBUTING.md. The
+table has a row for each crate, a row with the sums, and a line with the longest chain of crates that wait for one
+another.
+
+The script needs Linux (it reads /proc), Python 3, and the file crates.txt.
 """
 import collections
 import itertools
@@ -26,8 +36,11 @@ TICKS = os.sysconf("SC_CLK_TCK")
 
 
 def processes():
-    """Each process there is: its parent, its processor seconds with those of the processes that it started and
-    that have ended, and the words of its command line if it is a prover."""
+    """Yields each process of the machine: its id, its parent's id, its processor seconds, and its command line.
+
+    The processor seconds include those of child processes that have ended. The command line is a list of words. It is
+    empty (it has only an empty word) unless the process is a prover.
+    """
     for folder in os.scandir("/proc"):
         if folder.name.isdigit():
             try:
@@ -40,16 +53,22 @@ def processes():
 
 
 def what_of(words):
-    """The crate that a prover is at, and whether it is its proof, its tests or one of its edits; else nothing."""
+    """Returns the crate that a prover works on, and one of `proof`, `tests` and `edits`.
+
+    Returns None if the command line of the process names no crate.
+    """
     if "--crate-name" not in words:
         return None
     crate = words[words.index("--crate-name") + 1]
-    is_edit = words[1] == "check" and "-o" not in words  # with -o it is a program's proof
+    is_edit = words[1] == "check" and "-o" not in words  # with -o the prover builds a program, which counts as proof
     return crate, "tests" if "--test" in words else "edits" if is_edit else "proof"
 
 
 def look(root, spent):
-    """Notes of each prover below a process what it has spent so far, and answers whether the process is there."""
+    """Stores in `spent` the processor seconds of each prover below the process `root`.
+
+    Returns whether the process `root` still runs.
+    """
     there = {number: (parent, seconds, words) for number, parent, seconds, words in processes()}
     for number, (parent, seconds, words) in there.items():
         while parent in there and parent != root:
@@ -61,7 +80,7 @@ def look(root, spent):
 
 
 def watch(root, log):
-    """Keeps the log until the process has ended."""
+    """Measures until the process `root` has ended, and writes the log about every ten seconds."""
     log.parent.mkdir(exist_ok=True)
     spent, looks = {}, itertools.count()
     while look(root, spent):
@@ -74,7 +93,10 @@ def watch(root, log):
 
 
 def longest_chain(sums):
-    """The crates of the longest chain, lowest first, and its seconds: each waits for the proof of the one before it."""
+    """Returns the processor seconds of the longest chain, and its crates, lowest first.
+
+    In a chain, each crate depends on the crate before it, and waits for the proof of that crate.
+    """
     lines = [line for line in CRATES.read_text().splitlines() if line and not line.startswith("#")]
     stands_on = {line.split(":")[0].strip(): line.split(":")[1].split() for line in lines}
     chains = {}
@@ -85,12 +107,14 @@ def longest_chain(sums):
             chains[crate] = below[0] + sums[crate]["proof"], [*below[1], crate]
         return chains[crate]
 
-    # Its tests are proved beside a crate, so a chain ends with the longer of the two.
+    # The tests of a crate are proved at the same time as the crate. So the last crate of a chain counts with its proof
+    # or with its tests, whichever takes longer.
     ends = {it: (chain_to(it)[0] - sums[it]["proof"] + max(sums[it]["proof"], sums[it]["tests"]), chain_to(it)[1]) for it in stands_on}
     return max(ends.values())
 
 
 def table(log):
+    """Returns the table for CONTRIBUTING.md, from the text of a log."""
     sums = collections.defaultdict(collections.Counter)
     for name, what, seconds in re.findall(r"(?m)^(crush\w*) (proof|tests|edits) (\d+)$", log):
         sums[name][what] += int(seconds)

@@ -1,15 +1,26 @@
 #!/usr/bin/env python3
-"""Looks whether each public item of a library crate is somebody's.
+"""Finds the public functions and constants of the library crates that no other crate uses.
 
     python3 tools/doors.py [CRATE ..]
 
-A function or constant that can be reached from outside its crate is a door; types are shown by the functions that
-name them. Each has to be used by another crate that isn't one of tests, a constant also by its contracts and proofs,
-or to stand in OFFERED, the library's surface for callers that aren't of this repository. What only its own crate uses
-is `pub(crate)`, and what nobody uses goes. Laws, functions whose body is empty, aren't doors: a contract is all that
-they are. Calls are told by names, so that two methods of one name hide one another: a door of which this tells is no
-one's, and one of which it is silent may still be. Prints each, and names of OFFERED that no crate has, and ends with
-status 1 where there are any.
+A *door* is a function, a method or a constant that code outside its crate can use. The script checks all library
+crates, or only the crates that are named. For each door, one of these conditions must be true:
+
+- Another crate uses the door in its code. Crates of tests don't count. For a constant, a contract or a proof of the
+  other crate counts, too.
+- The door is in OFFERED, the list of what the library offers to programs outside this repository.
+- The door is a law, that is, a function with an empty body. Only the contract of a law matters, and nobody calls a
+  law.
+
+If no condition is true, make the item `pub(crate)`, or remove it if its own crate doesn't use it either. Types aren't
+checked.
+
+The script recognizes a use only by the name of the function. If two methods have the same name, a use of one method
+also counts as a use of the other. So each door that the script reports is unused, but the script doesn't find every
+unused door.
+
+The script needs only Python 3. It prints each unused door, and each name of OFFERED that isn't a door of its crate.
+The status is 1 if it has printed anything.
 """
 import re
 import sys
@@ -17,8 +28,10 @@ import sys
 sys.dont_write_bytecode = True
 from sources import PROGRAMS, TOP  # noqa: E402
 
-# What the library offers, whether or not the program calls it: its surface, as docs/dev/CALLING.md and docs/dev/SIGNATURES.md
-# tell it, the tests by which a caller meets what a call requires, and what contracts of others name.
+# For each crate, the functions and constants that the library offers to programs outside this repository, even if no
+# other crate of this repository uses them. docs/dev/SIGNATURES.md lists them, and docs/dev/CALLING.md shows
+# how to use the library. Some of them are functions with which a caller checks whether the condition of a contract is
+# met. Others are named in contracts of other crates.
 OFFERED = {
     "crush_units": {"LONGEST_SHORT_NAME", "Weight::exact_text", "is_name_byte"},
     "crush_edits": {"Edit::place", "Keyword::form"},
@@ -49,12 +62,17 @@ OFFERED = {
         "Book::opening", "LockFreeReader::learn", "LockFreeReader::note", "Editor::lock_free_reader", "Editor::learn", "Editor::note", "Seat::slips",
     },
 }
+# The head of a public function or constant.
 ITEM = re.compile(r"^(?P<in> *)pub (?:const |unsafe )?(?P<kind>fn|const) (?P<name>\w+)", re.M)
+# The head of an `impl`, or the brace that ends it. A method belongs to the type of the last `impl` before it.
 OWNER = re.compile(r"^(?:impl\b[^{;]*\{|\})", re.M)
 
 
 def libraries():
-    """The library crates, each with those that stand on it or on a crate that hands its items on, but for tests."""
+    """Yields each library crate with the crates that may use its items.
+
+    These crates depend on the library crate, or on a crate that re-exports its items. Crates of tests are left out.
+    """
     lines = (TOP / "crates.txt").read_text().splitlines()
     on = {line.split(":")[0]: set(line.split(":")[1].split()) for line in lines if line and not line.startswith("#")}
     for crate in on:
@@ -64,13 +82,13 @@ def libraries():
 
 
 def hands_on(crate, below):
-    """Whether a crate shows items of one below it as its own."""
+    """Whether a crate re-exports items of the crate `below`."""
     head = TOP / "crates" / crate / "src/lib.rt"
     return head.exists() and re.search(rf"(?m)^pub use {below}::", head.read_text()) is not None
 
 
 def code_of(crate):
-    """The code of a crate, without comments, contracts and what only proofs see."""
+    """Returns the code of a crate, without comments, contracts and `ghost` lines, which only the prover reads."""
     lines = []
     for path in sorted((TOP / "crates" / crate / "src").rglob("*.rt")):
         is_clause = False
@@ -88,7 +106,7 @@ def code_of(crate):
 
 
 def is_used(name, code, everything):
-    """Whether code calls this function or method, or names this constant anywhere."""
+    """Whether `code` uses a function or a method, or `everything` (also contracts and proofs) names a constant."""
     owner, _, last = name.rpartition("::")
     if last.isupper():
         return re.search(rf"\b{last}\b", everything) is not None
@@ -96,13 +114,16 @@ def is_used(name, code, everything):
 
 
 def body_of(text, start):
-    """The text of a function from its head to the end of its body."""
+    """Returns the first characters of the body of the function whose head begins before `start`."""
     opening = re.compile(r"^ *\{\n?|\{$", re.M).search(text, start)
     return text[opening.end() : opening.end() + 40] if opening else ""
 
 
 def doors(crate):
-    """Each item that can be reached from outside a crate: its name, with its owner, and whether it is a law."""
+    """Yields each function, method and constant that code outside a crate can use, and whether it is a law.
+
+    The name of a method has the name of its type in front, as in `Weight::read`.
+    """
     folder = TOP / "crates" / crate / "src"
     head = (folder / "lib.rt").read_text() if (folder / "lib.rt").exists() else ""
     shown = set(re.findall(r"\w+", " ".join(re.findall(r"(?ms)^pub use (.*?);", head))))
