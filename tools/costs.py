@@ -6,9 +6,9 @@
 
 With --watch, the script measures and writes the file LOG. PROCESS is the id of a process, such as the process of the
 gate (`make check`). The script looks at all provers that this process has started, directly or through other
-processes. It runs until the process ends, or until somebody ends the script. Each line of LOG has the form `CRATE WHAT
-SECONDS`. WHAT is `proof`, `tests` or `edits`, and `edits` stands for the wrong bodies, which are deliberate errors
-that the prover must refuse. SECONDS is the sum of the processor seconds that the provers took for this.
+processes. It runs until the process ends, or until somebody ends the script. Each line of LOG has three words: the
+name of a crate, then `proof`, `tests` or `edits`, and then the sum of the processor seconds that the provers took for
+this. The word `edits` stands for the wrong bodies, which are deliberate errors that the prover must refuse.
 
 The script looks at the provers once a second, so the last second of a prover can be missing from the sum. The script
 writes LOG about every ten seconds, so LOG can lack the last seconds before the process ends.

@@ -1,9 +1,14 @@
 #!/usr/bin/env python3
 """Writes the manual page man/crushedit.1 from the help in crates/crush_options/src/command_line.rt and verbs.rt.
 
-BEGIN comes first, with the help's examples of verbs. The help's paragraphs, lists of two columns and samples become those of
-the page. The help of each verb is a section of its own. END follows them. With --check nothing is written, and the status is
-1 if the page has other bytes.
+    python3 tools/manual.py [--check]
+
+After the name and the synopsis, the page has the text BEGIN, which contains the help's examples of verbs. Then the
+page has the help. Paragraphs, lists with two columns and samples of the help become paragraphs, lists and samples of
+the page. The help of each verb becomes a section of its own. At the end, the page has the text END.
+
+The script needs only Python 3. With --check the script writes nothing, and the status is 1 if the page isn't what the
+script would write.
 """
 import pathlib
 import re
@@ -15,7 +20,8 @@ VERBS = TOP / "crates/crush_options/src/verbs.rt"
 PAGE = TOP / "man/crushedit.1"
 # The one option that may be given several times.
 SCRIPT = "-s, --script SCRIPT"
-# How an operator begins. The help goes on with the command line without a verb.
+# The beginning of the description: how an operator begins. After it, the page describes the command line without a
+# verb.
 BEGIN = r""".PP
 .B crushedit
 edits the text of a CRUSH map, and never contacts a cluster.
@@ -24,7 +30,7 @@ Use one of the verbs, which have safe defaults:
 The section VERBS describes the verbs.
 A command line without a verb is for programs, and for tasks that no verb does.
 """
-# What else an operator must know who doesn't have the other pages at hand.
+# The end of the page: what else an operator must know who doesn't have the other pages at hand.
 END = r""".SH "FROM A CLUSTER AND BACK"
 .nf
 ceph osd getcrushmap \-o map.bin
@@ -106,34 +112,42 @@ gives the device this class.
 
 
 def constant(source, name):
-    """The text of a constant."""
+    """Returns the text of a constant of a source."""
     text = re.search(rf'(?s)const {name}: &str =\s+"(.*?)(?<!\\)";', source).group(1)
     return text.removeprefix("\\\n")
 
 
 def plain(text):
-    """Text as the page writes it: no hyphen is broken, and no line begins with a request."""
+    """Returns a text as the manual page needs it.
+
+    Backslashes and hyphens are escaped, and so is a `.` or a `'` at the beginning of a line, which would begin a
+    command of troff, the language of manual pages.
+    """
     text = text.replace("\\", "\\e").replace("-", "\\-")
     return re.sub(r"(?m)^(?=[.'])", r"\\&", text)
 
 
 def marked(text):
-    """What is typed is bold, what stands for something else is italic."""
+    """Returns a text that a user types, in bold. Words in capital letters, which stand for other words, are italic."""
     return re.sub(r"\b(?:[A-Z]{3,}|N)\b", r"\\fI\g<0>\\fB", f"\\fB{plain(text)}\\fR").replace("\\fB\\fR", "\\fR")
 
 
 def prose(text):
-    """A paragraph, in which backquotes mark what is typed."""
+    """Returns a paragraph. In the given text, what a user types is between backquotes."""
     parts = " ".join(text.split()).split("`")
     return "".join(marked(part) if at % 2 else plain(part) for at, part in enumerate(parts)) + "\n"
 
 
 def item(head, text):
+    """Returns an entry of a list: what a user types, and the text that explains it."""
     return f".TP\n{marked(head)}\n{prose(text)}"
 
 
 def block(text):
-    """A list, a sample or a paragraph of the help, perhaps behind its heading."""
+    """Returns a list, a sample or a paragraph of the help, as the manual page writes it.
+
+    If the text begins with a heading, the heading becomes the title of a section.
+    """
     if text.startswith("For example:\n"):
         return f".PP\nFor example:\n{block(text.partition(chr(10))[2])}"
     heading = re.match(r"([A-Z][A-Za-z ]*)(?:, ([^\n]*))?:\n(?=.)", text)
@@ -149,12 +163,15 @@ def block(text):
 
 
 def texts_of(source):
-    """The texts of a source by the names of the variables or constants that have them."""
+    """Returns the texts of a source, by the names of the variables or constants that have these texts."""
     return dict(re.findall(r'(?:let|const) (\w+)(?:: &str)? =\s+"([^"]+)";', source))
 
 
 def short_options(source):
-    """The options that have a letter too, such as `-s, --script SCRIPT`, by the function that makes them, with their texts."""
+    """Returns the options that also have a letter, such as `-s, --script SCRIPT`, with their texts.
+
+    The keys are the names of the functions of the source that create the options.
+    """
     made = (
         r'fn (\w+)<\'a>\(alloc: Global\)[^{]*(?:\{[^}]*\}\s*ensures[^{]*\{[^}]*\}\s*)\{\s*Arg::new\(alloc, "([a-z-]+)"\)\s*'
         r'\.short\(\'(\w)\'\).*?\.value_name\("(\w+)"\).*?\.help\("([^"]+)"\)'
@@ -166,7 +183,7 @@ def short_options(source):
 
 
 def words_in(body, texts, short):
-    """The options that a part of a source adds to a command, in its order, with their texts."""
+    """Yields the options that a part of a source adds to a command, in the order of the source, with their texts."""
     added = r'\b(?:flag|option)\(\s*alloc,\s*"([a-z-]+)",\s*(?:"([A-Z]+)",\s*)?(\w+),?\s*\)|\.arg\((\w+)\(alloc\)\)'
     for name, value, text, function in re.findall(added, body):
         if name:
@@ -176,7 +193,7 @@ def words_in(body, texts, short):
 
 
 def words_of(source):
-    """The options of the plain command line in the order of the help, each with its text."""
+    """Returns the options of a command line without a verb, in the order of the help, each with its text."""
     return [
         *words_in(source, texts_of(source), short_options(source)),
         ("-h, --help", "Print help, and run nothing"),
@@ -197,12 +214,14 @@ class Verb:
         self.more_files = script.groups() if "more_scripts(alloc)" in bodies else None
 
     def synopsis(self):
+        """Returns the lines of the synopsis that show the verb with its arguments."""
         files = [f".I {name}\n" for name, _ in self.files]
         if self.more_files:
             files.append(f".RI [ {self.more_files[0]} ]..\n")
         return f".B crushedit {self.name}\n.RI [ OPTION ]..\n{''.join(files)}"
 
     def section(self):
+        """Returns the section of the page that describes the verb."""
         files = [*self.files, *([self.more_files] if self.more_files else [])]
         return (
             f'.SS "crushedit {self.name}"\n{plain(self.about)}.\n'
@@ -212,12 +231,13 @@ class Verb:
 
 
 def verbs():
-    """The verbs, in the order of the help."""
+    """Returns the verbs, in the order in which the source lists them."""
     source, plain = VERBS.read_text(), SOURCE.read_text()
     return [Verb(name, source, plain) for name in re.findall(r'word == "([a-z]+)"', source)]
 
 
 def page():
+    """Returns the text of the manual page."""
     source = SOURCE.read_text()
     version = constant(source, "VERSION")
     about, verb_list, verb_text, examples, _ = constant(source, "ABOUT").split("\n\n")

@@ -1,28 +1,35 @@
-"""Looks whether each path that a text of the repository names is there; check.py calls it.
+"""Checks whether each path that a text of the repository names exists. check.py calls `path_faults`.
 
-The texts are the pages, the scripts, the Makefile, .ci/run, and the sources of the crates with their comments. A path is a
-word that begins with one of FOLDERS, as `tools/check.py` does. In a path, `*` and a word of capitals stand for any name, and
-`{a,b}` stands for each of several names. What follows `out/` is left by a build, and may be missing. On a page, the name of a
-script or a page in backticks has to be a file's too, and docs/README.md has to link each page of docs/.
+The texts are the pages, the scripts, the Makefile, .ci/run, the sources of the crates with their comments, and some
+other files (see READ and READ_TOO). A path is a word that begins with one of FOLDERS, such as `tools/check.py`. In a
+path, `*` and a word of capital letters stand for any name, and `{a,b}` stands for each of the names `a` and `b`. A
+path with a folder `out` may be missing, because builds create these folders.
+
+If a page has a file name in backticks, such as the name of a script or of a page, the repository must have a file with
+this name. docs/README.md must have a link to each page of docs/.
 """
 import functools
 import re
 
 from sources import TOP, files_below
 
+# The folders at the top of the repository with which a path may begin.
 FOLDERS = (".ci", "bench", "bin", "completions", "crates", "docs", "examples", "man", "packaging", "tests", "tools")
-# Paths that no file here has: of the archive that `make dist` leaves, and of the toolchain, whose own folder of edits stays
-# unused.
+# Paths that texts may name although this repository doesn't have them. They belong to the archive that `make dist`
+# writes and to the toolchain. One of them is the toolchain's own folder for wrong bodies (deliberate errors that the
+# prover must refuse), which this repository doesn't use.
 ELSEWHERE = {"bin/crushedit", "bin/rattle", "crates/*/must-fail", "crates/NAME/must-fail", "crates/NAME/must-fail/"}
-# What stands before a path is no part of one, but for `$top/` of a shell script.
+# A path. The text before it must not belong to a longer path, except for `$top/` in a shell script.
 PATH = re.compile(r"(?:(?<![\w./$})-])|(?<=\$top/))(?:" + "|".join(map(re.escape, FOLDERS)) + r")/(?:[\w.*+/-]|\{[^{}\n]*\})*(?![\w.*+/\[\\-])")
+# The name of a file in backticks.
 NAME = re.compile(r"`([\w.-]+\.(?:py|sh|md|rt|antt|edit|bash))`")
+# The files that are checked: those with these suffixes, and these other files.
 READ = {".md", ".py", ".sh", ".rt", ".antt", ".edit", ".bash", ".1"}
 READ_TOO = {"Makefile", ".ci/run", "bin/crushedit-recipe", "crates.txt", ".gitattributes", ".editorconfig"}
 
 
 def texts():
-    """The files that are looked at, by their paths from the top."""
+    """Yields each file that is checked, with its path from the top of the repository."""
     for path in files_below(TOP):
         name = str(path.relative_to(TOP))
         if path.is_file() and (path.suffix in READ or name in READ_TOO) and not re.match(r"crates/\w+/data/", name):
@@ -31,12 +38,15 @@ def texts():
 
 @functools.cache
 def there():
-    """The files and folders of the repository, by their paths from the top."""
+    """Returns the paths of all files and folders of the repository, from the top of the repository."""
     return {str(path.relative_to(TOP)) for path in files_below(TOP)}
 
 
 def spelled(path):
-    """The paths that one with braces stands for. Braces without a comma are those of a format, and stand for any name."""
+    """Returns the paths that a path with braces stands for.
+
+    Braces without a comma are part of a format string, and stand for any name.
+    """
     braces = re.search(r"\{([^{}]*)\}", path)
     if braces is None:
         return [path]
@@ -45,7 +55,7 @@ def spelled(path):
 
 
 def is_there(path):
-    """Whether a file or a folder has this path, in which `*` and a word of capitals stand for any name."""
+    """Whether a file or a folder has this path, in which `*` and a word of capital letters stand for any name."""
     parts = path.rstrip("/").split("/")
     if "out" in parts:
         return True
@@ -57,7 +67,10 @@ def is_there(path):
 
 
 def path_faults():
-    """The paths and names that no file has, each with the text that names it, and pages that docs/README.md doesn't link."""
+    """Yields the paths and the names of files that don't exist, each with the text that names it.
+
+    Also yields the pages of docs/ to which docs/README.md has no link.
+    """
     names = {path.rpartition("/")[2] for path in there()}
     for name, path in texts():
         text = path.read_text(errors="replace")

@@ -1,11 +1,21 @@
 #!/usr/bin/env python3
-"""Writes docs/dev/SIGNATURES.md: what a caller of the library takes, as the crates declare it.
+"""Writes docs/dev/SIGNATURES.md: the types, functions and constants that a caller of the library needs.
 
-It begins with the names in the table of docs/dev/CALLING.md and with those that tools/doors.py offers, and goes on with each
-type that a signature, a field or a variant among them names. A type stands under the last crate that re-exports it, with
-its public fields or variants, its public methods and its traits; a function with the names of its clauses; a module of
-constants with each constant. Each has its whole comment, also fields and variants. A call that takes a type of INSIDE, of
-which no caller has a value, is left out. With --check nothing is written, and the status is 1 if the page has other bytes.
+    python3 tools/signatures.py [--check]
+
+The page has the names in the table of docs/dev/CALLING.md, and the names of OFFERED in tools/doors.py. It also has
+each type that occurs in the signature of a function, in a field or in a variant of another item of the page. Each type
+is in the section of the last crate, in the order of crates.txt, that declares or re-exports it. (The crate `crush`
+doesn't count.) The page shows these things:
+
+- For a type: its public fields or its variants, its public methods, and its traits. A method is left out if its head
+  names a type of INSIDE, because a caller never has a value of such a type.
+- For a function: its head, and the names of the clauses of its contract.
+- For a module of constants: each constant.
+- For each of these, and for each field and variant: its whole comment.
+
+The script needs only Python 3. With --check the script writes nothing, and the status is 1 if the page isn't what the
+script would write.
 """
 import pathlib
 import re
@@ -18,6 +28,7 @@ from sources import FACADE  # noqa: E402
 
 CRATES = TOP / "crates"
 PAGE = TOP / "docs/dev/SIGNATURES.md"
+# The beginning of the page.
 HEAD = """\
 # Signatures
 
@@ -29,31 +40,40 @@ For example, the method `finish` of a `MapBuilder` has the comment `// requires;
 - A comment `// traits: ..` has the traits that the type below it implements.
 - The type parameter `A` is the allocator of a map's memory. The type parameter `N` is the name of an editor. The type parameter `O` says whether an editor keeps a copy of its opening map, the map before the first call.
 """
-# Types of which no caller has a value, so that no call that asks for one is shown: a map comes of a reader or a builder.
+# Types of which a caller never has a value, because a caller gets a map from a reader or a builder. The page has no
+# methods whose heads name such a type.
 INSIDE = {"Hierarchy", "Guide"}
-# Traits that every type has, and those of which contracts speak.
+# Traits that the page doesn't show: every type has `Drop`, and only contracts use `Model`.
 UNTOLD = {"Drop", "Model"}
+# The number of columns of the page.
 WIDTH = 116
+# The heads of functions, types, functions of a trait, and constants.
 FUNCTION = re.compile(r"(?m)^(?P<in>(?:    )?)pub (?P<kind>(?:const )?(?:unsafe )?)fn (?P<name>\w+)")
 TYPE = re.compile(r"(?m)^pub (?P<kind>struct|enum|trait|type) (?P<name>\w+)")
 OF_TRAIT = re.compile(r"(?m)^(?P<in>    )fn (?P<name>\w+)")
 CONSTANT = re.compile(r"(?m)^pub const (\w+): .*;$")
-# A field or a variant with the comment and the attributes above it.
+# A field or a variant, with the comment and the attributes above it.
 PART = re.compile(r"((?:[ \t]*///.*\n|[ \t]*//.*\n|[ \t]*#\[(?:[^\[\]]|\[[^\]]*\])*\]\n|\s*\n)*)[ \t]*(\S(?:[^,{(<]|\((?:[^()]|\([^()]*\))*\)|<(?:[^<>]|<[^<>]*>)*>|\{[^{}]*\})*),?")
 
 
 def code_of(path):
+    """Returns the text of a file without `ghost` items, which only the prover reads."""
     return re.sub(r"(?m)^\s*ghost [^;{]*(?:\{[^}]*\})?[^;]*;\n", "", path.read_text())
 
 
 def order():
+    """Returns the names of the crates in the order of crates.txt, without the crate that only re-exports items."""
     lines = (TOP / "crates.txt").read_text().splitlines()
     names = [line.split(":")[0] for line in lines if line and not line.startswith("#")]
     return [name for name in names if name != FACADE]
 
 
 class Crate:
-    """What a crate declares and hands on."""
+    """A crate: its files, the names that it declares publicly, and the names that it re-exports from other crates.
+
+    `shown` has the names of its own modules that the crate shows. `handed` has the names that the crate re-exports,
+    each with the crate from which it comes.
+    """
 
     def __init__(self, name):
         self.name, folder = name, CRATES / name / "src"
@@ -70,11 +90,12 @@ class Crate:
                     self.shown.add(it)
 
     def is_public(self, path, name):
+        """Whether code outside the crate can use the item `name` of the file `path`."""
         return name in self.shown or path.relative_to(CRATES / self.name / "src").parts[0].removesuffix(".rt") in self.public
 
 
 def docs_above(text, at):
-    """The comment above a place, paragraph by paragraph."""
+    """Returns the paragraphs of the comment (`///`) above a position of a text."""
     lines = []
     for line in reversed(text[:at].splitlines()):
         line = line.strip()
@@ -86,13 +107,13 @@ def docs_above(text, at):
 
 
 def paragraphs(lines):
-    """The paragraphs of the lines of a comment, with links to the sources as plain names."""
+    """Returns the paragraphs of the lines of a comment. A link to an item becomes the name of the item."""
     said = re.split(r"\n\s*\n", "\n".join(lines).strip())
     return [re.sub(r"\[(`[^`]+`)\](../?:\([\w:]+\))?", r"\1", " ".join(part.split())) for part in said if part.strip()]
 
 
 def commented(said, indent=""):
-    """The lines of a comment."""
+    """Yields the lines of a comment that has these paragraphs."""
     for number, part in enumerate(said):
         if number:
             yield f"{indent}///"
@@ -100,7 +121,10 @@ def commented(said, indent=""):
 
 
 def braced(text, at):
-    """The text between the brace behind a place and the one that closes it. Braces in comments and literals don't count."""
+    """Returns the text between the first brace after a position and the brace that closes it.
+
+    Braces in comments and literals don't count.
+    """
     begin, depth = text.index("{", at), 0
     for found in re.compile(r"""//.*|"(?:[^"\\]|\\.)*"|'(?:[^'\\]|\\.)'|[{}]""").finditer(text, begin):
         depth += {"{": 1, "}": -1}.get(found[0], 0)
@@ -110,6 +134,7 @@ def braced(text, at):
 
 
 class Function:
+    """A function: its name, its comment, its head, and the names of the clauses of its contract."""
     def __init__(self, text, found):
         end = re.compile(rf"(?m)^{found['in']}\{{|(?<=\S) \{{$|;$").search(text, found.end())
         whole = re.sub(r"(?m)^ *//.*\n", "", text[found.start() : end.start()])
@@ -123,6 +148,7 @@ class Function:
             self.clauses[word].append(name or "")
 
     def lines(self):
+        """Yields the lines of the page that show the function."""
         yield from commented(self.docs)
         told = [f"{word} {', '.join(filter(None, names))}".strip() for word, names in self.clauses.items()
                 if any(names) or names and word == "requires"]
@@ -130,7 +156,7 @@ class Function:
 
 
 def behind(lines, remark):
-    """Lines with a remark behind the last of them, or above them where it is too long."""
+    """Returns lines with a comment after the last line, or above the lines if the last line would be too long."""
     *others, last = lines
     if not remark:
         return lines
@@ -140,7 +166,11 @@ def behind(lines, remark):
 
 
 def wrapped(head):
-    """A head on one line, or with a line for each argument and each bound."""
+    """Returns the lines of a function's head.
+
+    If the head doesn't fit into one line, its bounds (after `where`) are in lines of their own. If the rest of the
+    head still doesn't fit into one line, each argument has a line of its own.
+    """
     if len(head) <= WIDTH:
         return [head]
     head, _, bounds = head.partition(" where ")
@@ -161,7 +191,10 @@ def wrapped(head):
 
 
 def parts_of(inside, is_struct, indent):
-    """The lines of the public fields of a struct, or of all variants of an enum and their fields, each below its comment."""
+    """Yields the lines of the public fields of a struct, or of all variants of an enum and their fields.
+
+    The comment of a field or a variant is above it.
+    """
     for above, part in PART.findall(inside):
         said = paragraphs([line.strip()[3:].strip() for line in above.splitlines() if line.strip().startswith("///")])
         if is_struct and not part.startswith("pub "):
@@ -179,6 +212,10 @@ def parts_of(inside, is_struct, indent):
 
 
 class Library:
+    """All library crates, with the types and the functions that code outside their crates can use.
+
+    The keys of `types` and `functions` are pairs of a crate and a name.
+    """
     def __init__(self):
         self.order = order()
         self.crates = {name: Crate(name) for name in self.order if (CRATES / name / "src/lib.rt").exists()}
@@ -193,32 +230,32 @@ class Library:
                         self.functions[crate.name, found["name"]] = path, Function(text, found)
 
     def origin(self, crate, name):
-        """The crate that declares what another shows under a name."""
+        """Returns the crate that declares a name, which the crate `crate` declares or re-exports."""
         while crate in self.crates and name in self.crates[crate].handed:
             crate = self.crates[crate].handed[name]
         return crate
 
     def imported(self, crate, path):
-        """The crates of the names that a file takes from others."""
+        """Returns, for each type that a file imports from another crate, the crate that declares the type."""
         names = {}
         for used in re.findall(r"(?ms)^(?:pub )?use (crush_\w+)::(.*?);", self.crates[crate].files[path]):
             names.update({name: self.origin(used[0], name) for name in re.findall(r"\b[A-Z]\w*\b", used[1])})
         return names
 
     def named(self, crate, path, text):
-        """The types of the library that a text of a file names."""
+        """Yields the types of the library that a text of a file names, each with the crate that declares it."""
         names = self.imported(crate, path)
         for name in re.findall(r"(?<!::)\b[A-Z]\w*\b", text):
             if (names.get(name, crate), name) in self.types:
                 yield names.get(name, crate), name
 
     def home(self, crate, name):
-        """The last crate that hands something on."""
+        """Returns the last crate that re-exports an item, or the crate of the item if no other crate re-exports it."""
         return [other for other in self.order if other in self.crates and self.origin(other, name) == crate
                 and (other == crate or name in self.crates[other].handed)][-1]
 
     def impls(self, crate, name):
-        """The blocks of a type: its file, the head, and what stands inside."""
+        """Yields the `impl` blocks of a type: the file, the head, the head without type parameters, and the inside."""
         for path, text in self.crates[crate].files.items():
             for found in re.finditer(r"(?m)^(?:unsafe )?impl\b[^{;]*\{", text):
                 head = " ".join(found[0].rstrip("{").split())
@@ -227,7 +264,7 @@ class Library:
                     yield path, head, flat, braced(text, found.start())
 
     def body_of(self, crate, name):
-        """The declaration of a type with what of it is public."""
+        """Returns the declaration of a type, with the public fields, the variants or the functions of the type."""
         path, found = self.types[crate, name]
         text = self.crates[crate].files[path]
         line = text[found.start() : re.compile(r"[{;]").search(text, found.end()).start()]
@@ -247,6 +284,7 @@ class Library:
         return "\n".join([head + " {", *parts, "}"]) if parts else head
 
     def traits(self, crate, name):
+        """Returns the names of the traits that a type implements or derives, except for those of UNTOLD."""
         path, found = self.types[crate, name]
         above = re.search(r"((?:#\[[^\n]*\]\n)*)$", self.crates[crate].files[path][: found.start()])[1]
         names = [it for derived in re.findall(r"derive\(([^)]*)\)", above) for it in derived.split(", ")]
@@ -258,7 +296,10 @@ class Library:
         return sorted(set(names) - UNTOLD)
 
     def methods(self, crate, name):
-        """Each block of a type with its public methods."""
+        """Yields the `impl` blocks of a type that have public methods: the files, the head, and the methods.
+
+        Blocks with the same head are yielded as one block.
+        """
         blocks = {}
         for path, head, _, inside in self.impls(crate, name):
             functions = [Function(inside, found) for found in FUNCTION.finditer(inside) if found["in"]]
@@ -270,7 +311,10 @@ class Library:
 
 
 def roots(library):
-    """What the table of CALLING.md lists and tools/doors.py offers: types, functions and modules, by the crates that declare them."""
+    """Yields the types, functions and modules in the table of CALLING.md and in OFFERED of tools/doors.py.
+
+    Each name comes with the crate that declares it.
+    """
     listed = {}
     for crate, names in re.findall(r"(?m)^\| `(crush_\w+)` \| ([^|]*) \|", (TOP / "docs/dev/CALLING.md").read_text()):
         listed.setdefault(crate, set()).update(re.findall(r"`([\w:]+)`", names))
@@ -282,7 +326,7 @@ def roots(library):
 
 
 def constants(library, crate, module):
-    """The lines of a module of constants."""
+    """Yields the lines of the page that show a module of constants."""
     path = CRATES / crate / "src" / f"{module}.rt"
     text = library.crates[crate].files[path]
     yield f"pub mod {module} {{"
@@ -292,7 +336,10 @@ def constants(library, crate, module):
 
 
 def closed(library):
-    """Those, and each type that they name."""
+    """Returns the types, functions and modules of the page: those of `roots`, and each type that these need.
+
+    An item needs the types that it names, and all types that these types need.
+    """
     types, functions, modules, waiting = set(), set(), set(), list(roots(library))
     while waiting:
         crate, name = waiting.pop()
@@ -306,7 +353,7 @@ def closed(library):
             types.add((crate, name))
             path, found = library.types[crate, name]
             if found["kind"] == "type":
-                continue  # a caller hands it on, and looks at nothing of it
+                continue  # a caller only passes such a value on
             waiting += library.named(crate, path, re.sub(r"(?m)^ *///.*$", "", library.body_of(crate, name)))
             for paths, head, methods in library.methods(crate, name):
                 for path in paths:
@@ -315,6 +362,7 @@ def closed(library):
 
 
 def page():
+    """Returns the text of the page."""
     library = Library()
     types, functions, modules = closed(library)
     parts = [HEAD]

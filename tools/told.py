@@ -1,27 +1,41 @@
-"""Looks whether what pages tell in words and numbers is what the crates have; check.py calls it.
+"""Compares statements of the pages with the sources. check.py calls `told_faults`.
 
-RULES.md has a row for each variant of the enums of ROWS, and for each limit with its value, and a sentence for each,
-which is the one of SENTENCES; and the sentences of runs and those with names. MODEL.md tells how many worked lines
-there are, tests/README.md which scripts the gate runs, edits.md which refusals the tests of an edit may tell. In
-PROVED.md what is trusted has each crate that isn't of this repository, and what is unsafe is told; each call there is
-of the crate that it names. A clause that a page tells of calls is one of each. CALLING.md and editor.md show lines of
-programs, and CALLING.md tells which traits faults and values have. FORMATS.md has a heading for each word of the help,
-README.md a row for each status. Names of refusals and faults stand in the crates, also on pages of WORDS_OF_TEXTS.
+These are the statements:
+
+- RULES.md must have a row for each variant of the enums of ROWS, and for each limit. The row of a limit must have the
+  value of the limit. The sentences of refusals and of faults of jobs must be those of the definitions in SENTENCES.
+  The sentences of runs and the sentences that name an item must also be those of their definitions.
+- MODEL.md must say how many worked examples of edits there are.
+- tests/README.md must say for each script of tests/ whether the gate (`make check`) runs it.
+- edits.md must list for each edit the refusals that the definition of the edit can give.
+- PROVED.md must name the crates of the toolchain that are trusted, and the unsafe functions. If PROVED.md says that a
+  function is in a crate, this crate must have the function.
+- If a page says that a function has a clause, the function's contract must have this clause.
+- The code in CALLING.md and editor.md must be lines of the programs that these pages name.
+- Errors and values must have the traits that CALLING.md says they have.
+- FORMATS.md must have a heading for each option of the command line, and README.md must have a row for each exit
+  status.
+- The crates must declare each name of a type, a refusal or a fault that the pages of WORDS_OF_TEXTS have in backticks.
+
+Each function whose name ends in `_faults` yields a line for each statement that is wrong.
 """
 import re
 
 from sources import COMMAND_LINE, PAGES, ROWS, TOP, WORDS_OF_TEXTS
 from sources import contracts, crate_files, fields_of_records, known_words, page_of, quoted, sections_of, tables, variants
 
-# Where the sentences of these enums stand, by the words that their definitions begin with; RULES.md has the same.
+# The files whose definitions have the sentences of refusals and of faults of jobs. A definition such as `job_sentence`
+# has the sentences of an enum.
 SENTENCES = "crush_reasons/specs/Sentences.antt", "crush_edits/specs/Refusal.antt"
+# The first words of the names of these definitions, each with the section of RULES.md that must have the same
+# sentences.
 SAID = {("job",): "Faults of a job", ("refusal", "stale"): "Refusals"}
 # The faults of a job whose sentences depend on the text of the map, or on the faulty line.
 NO_SENTENCE = {"Text", "BadLine", "NoSuchCommand"}
 
 
 def rule_faults():
-    """Which refusals, faults and limits have no row in RULES.md."""
+    """Yields the refusals, faults and limits that have no row in RULES.md."""
     sections = sections_of("RULES.md")
     wanted = {title: variants(name, enum) for title, (name, enum) in ROWS.items()}
     limits = (TOP / "crates/crush_units/src/limits.rt").read_text()
@@ -36,7 +50,7 @@ def rule_faults():
 
 
 def sentence_faults():
-    """Which faults and refusals have no sentence, or another one in RULES.md."""
+    """Yields the refusals and faults of jobs that have no sentence, or that have another sentence in RULES.md."""
     specs, sections = "\n".join((TOP / "crates" / name).read_text() for name in SENTENCES), sections_of("RULES.md")
     said = re.findall(r'(?m)^(\w+)_sentence (?:\(?(?:\w+\.)?(\w+)[^=\n]*)?= codes "(.*)"$', specs)
     for word, title in SAID.items():
@@ -52,7 +66,7 @@ def sentence_faults():
 
 
 def run_sentence_faults():
-    """Which sentences of runs RULES.md hasn't, or has another of."""
+    """Yields the sentences of runs that RULES.md lacks, and the sentences that RULES.md has and no run prints."""
     report = (TOP / "crates/crush_input/specs/Report.antt").read_text()
     said = {sentence for sentence in re.findall(r'codes "  (.*?)\\n"', report)}
     told = {row[1].strip("`") for _, rows in tables(sections_of("RULES.md")["Sentences of runs"]) for row in rows}
@@ -61,8 +75,11 @@ def run_sentence_faults():
 
 
 def named_sentence_faults():
-    """Which sentences with a name RULES.md hasn't, and which sentences of refusals and of faults of a text it has that
-    nothing in crush_reasons tells."""
+    """Yields the sentences with the name of an item that RULES.md lacks.
+
+    Also yields the parts of RULES.md's sentences, for such refusals and for faults of a text, that no definition of
+    crush_reasons has.
+    """
     specs = "\n".join(path.read_text() for path in sorted((TOP / "crates/crush_reasons/specs").glob("*.antt")))
     told = {quoted(row[0])[0]: row[1].strip("`") for _, rows in tables(sections_of("RULES.md")["Refusals that name what is in the way"]) for row in rows}
     for name, said in re.findall(r'(?m)^said_of refusal\.(\w+) = Some \(codes "(.*)"\)$', specs):
@@ -76,14 +93,14 @@ def named_sentence_faults():
 
 
 def unprinted(sentence, specs):
-    """The parts of a sentence, without its words in capital letters, that no definition has."""
+    """Returns the parts of a sentence between its words in capital letters that no definition has."""
     literals = re.findall(r'codes "([^"]*)"', specs)
     parts = [part.strip(" `") for part in re.split(r"\b(?:[A-Z]{4,}|N)\b", sentence)]
     return [part for part in parts if not any(part in literal for literal in literals)]
 
 
 def gate_faults():
-    """Which scripts of tests/ its page doesn't name, or says wrongly to be in the gate or not."""
+    """Yields the scripts of tests/ that tests/README.md doesn't name, or whose column about the gate is wrong."""
     text = re.sub(r"(?ms)^```.*?^```$", "", (TOP / "tests/README.md").read_text())
     gate = (TOP / ".ci/run").read_text().replace("\n", " ")
     in_gate = {path.name for path in (TOP / "tests").iterdir() if f"tests/{path.name} " in gate}
@@ -96,7 +113,10 @@ def gate_faults():
 
 
 def number_faults():
-    """Which numbers of the pages aren't those of the crates: of limits and of worked lines; and what is said of the gate."""
+    """Yields the limits for which RULES.md lacks the value, and a wrong number of worked examples in MODEL.md.
+
+    Also yields the faults of `gate_faults`.
+    """
     text = (TOP / "crates/crush_units/src/limits.rt").read_text()
     limits = {name: int(value) for name, value in re.findall(r"(?m)^pub const (\w+): \w+ = (\d+);", text)}
     for line in re.findall(r"(?m)^\| `.*$", sections_of("RULES.md")["Limits"]):
@@ -112,7 +132,7 @@ def number_faults():
 
 
 def met_faults():
-    """Which edits may meet other refusals than edits.md says, by the tests of their definitions."""
+    """Yields the edits for which edits.md lists other refusals than the definition of the edit tests for."""
     specs = "\n".join(path.read_text() for path in sorted((TOP / "crates/crush_edits/specs").glob("*.antt")))
     bodies = dict(re.findall(r"(?m)^(\w+_tests?) [^:=\n]*=((?: .*|\n    .*)+)$", specs))
     edits = re.findall(r"(?m)^tests s t \((?:Place )?(\w+)[^)]*\) a = (\w+_tests)", specs)
@@ -136,7 +156,11 @@ def met_faults():
 
 
 def trust_faults():
-    """Which crates of the toolchain PROVED.md doesn't name as trusted, or that nothing stands on, and what is unsafe untold."""
+    """Yields what is wrong with the lists of PROVED.md about what is trusted and what is only tested.
+
+    The list of what is trusted must have exactly the crates of the toolchain on which a crate of this repository
+    depends. The list of what is only tested must name each unsafe function and its crate.
+    """
     lines = [line.split(":") for line in (TOP / "crates.txt").read_text().splitlines() if line and not line.startswith("#")]
     ours = {line[0] for line in lines}
     others = {name for line in lines for name in line[1].split()} - ours
@@ -152,7 +176,11 @@ def trust_faults():
 
 
 def clause_faults():
-    """Which clauses the pages tell that the calls don't have, in brackets behind calls or as of PROVED.md, and which calls crates don't have."""
+    """Yields the clauses that a page gives to a function whose contract doesn't have them.
+
+    On the pages, the names of the clauses are in brackets after the function, or in PROVED.md after the function and
+    its crate. Also yields the functions that PROVED.md places in a crate that doesn't have them.
+    """
     records, clauses, by_crate = fields_of_records(), {}, {}
     for crate, name, text in contracts():
         there = set(re.findall(r"\bensures (\w+) \{", text))
@@ -179,7 +207,7 @@ def clause_faults():
 
 
 def plain_lines(text):
-    """The lines of code of a text, without comments, contracts and blank lines."""
+    """Returns the lines of code of a text, without comments, contracts and blank lines."""
     lines, is_clause = [], False
     for line in text.splitlines():
         word = line.strip()
@@ -196,7 +224,10 @@ def plain_lines(text):
 
 
 def shown_faults():
-    """Whether the lines of code that CALLING.md and editor.md show stand so in the program that is named above them; `..` leaves lines out."""
+    """Yields the blocks of code in CALLING.md and editor.md that the program named above the block doesn't have.
+
+    A line `..` of a block stands for lines that the page leaves out.
+    """
     for name in ("CALLING.md", "editor.md"):
         page = page_of(name).read_text()
         for found in re.finditer(r"(?s)```rust\n(.*?)```", page):
@@ -208,7 +239,7 @@ def shown_faults():
 
 
 def caller_faults():
-    """Which faults and values lack a trait that CALLING.md says they have."""
+    """Yields the errors and values that lack a trait which CALLING.md says they have."""
     surface, traits = (TOP / "docs/dev/SIGNATURES.md").read_text(), []
     for line in surface.splitlines():
         if re.match("// +", line) and (traits or line.startswith("// traits: ")):
@@ -222,12 +253,15 @@ def caller_faults():
 
 
 def word_faults():
-    """Which words of the command line FORMATS.md doesn't tell of, or tells of that aren't there."""
+    """Yields the options that have no heading in FORMATS.md, and the headings for options that don't exist.
+
+    Also yields the exit statuses that only README.md lists, or only the help.
+    """
     source = (TOP / COMMAND_LINE).read_text()
     there = {*re.findall(r'\b(?:flag|option)\(alloc, "([a-z-]+)"', source), *re.findall(r'\.long\("([a-z-]+)"\)', source)}
     section = sections_of("FORMATS.md")["The command line"]
     told = {name for head in re.findall(r"(?m)^### .*$", section) for name in re.findall(r"`--([a-z-]+)", head)}
-    # The one word that is called by its letter.
+    # The options whose headings have the letter of the option, and not its long name.
     told |= {name for head, name in re.findall(r"(?ms)^### `(-[a-z] [A-Z]+)`\n.*?`--([a-z-]+) [A-Z]+`", section)}
     for name in sorted((there | {"help", "version"}) ^ told):
         yield f"FORMATS.md: {'no heading for' if name in there else 'there is no'} --{name}"
@@ -237,7 +271,7 @@ def word_faults():
 
 
 def name_faults():
-    """Which names of refusals, faults and types no crate has, of pages that name words of jobs beside them."""
+    """Yields the names of refusals, faults and types on pages of WORDS_OF_TEXTS that no crate declares."""
     words = known_words()
     for page in PAGES:
         text = re.sub(r"```.*?```", "", page.read_text(), flags=re.S)
@@ -247,7 +281,7 @@ def name_faults():
 
 
 def told_faults():
-    """All of these, each with its page."""
+    """Yields the faults of all functions above, each with the name of its page."""
     yield from (f"RULES.md: {fault}" for of in (rule_faults, sentence_faults, run_sentence_faults, named_sentence_faults) for fault in of())
     yield from (f"PROVED.md: {fault}" for fault in trust_faults())
     for of in (number_faults, met_faults, clause_faults, shown_faults, caller_faults, word_faults, name_faults):
