@@ -1,19 +1,27 @@
-"""Tries exact weights, as `--exact` prints them, with Ceph's own crushtool and with a monitor.
+"""Tests whether Ceph's own tools get the same weights when they read the weights that `--exact` prints.
 
     python3 bench/exact_weights.py FOLDER [--maps N] [--monitor N [--program PROGRAM]] [--seed SEED]
 
-In FOLDER is the Ceph that `tests/monitor.sh install` has installed. Each weight of a device from 1 to 6553600 units (100
-TiB, the most that `crushtool -c` takes) is printed in exact form, in 100 maps of 65,536 weights each. `crushtool -c`
-compiles each map. Then `crushtool --dump` has to have the same units, and the text of `crushtool -d`, read to the nearest
-unit, too. A map has 500 devices, and each of its buckets holds all of them with other weights: Ceph allows that, and
-`crushtool -c` takes long for maps with more devices. With --maps only the first N of the maps are tried. Random weights of
-buckets of 100 to 256 TiB are tried in one more map, as items of other buckets.
+A weight of 1.0 has 65,536 *units*. An *exact* weight has six digits after the point, so that Ceph, which rounds each
+weight down, reads the same number of units. FOLDER is the folder in which `tests/monitor.sh install` has installed
+Ceph.
 
-With --monitor the monitor that `tests/monitor.sh start` has started in FOLDER gets N random weights in exact form, and then
-has to have each of these units. This needs root. With --program PROGRAM the monitor gets the commands that PROGRAM prints
-with `--as-ceph`. Without it this script writes the weights itself.
+Without --monitor, the script tests `crushtool`. It writes each weight of a device from 1 to 6,553,600 units (100 TiB,
+the largest weight that `crushtool -c` reads) in exact form. These weights are in 100 maps with 65,536 weights each.
+`crushtool -c` compiles each map. Then the weights that `crushtool --dump` prints must have the same units. The weights
+that `crushtool -d` prints must also have the same units, if they are rounded to the nearest unit. A map has 500
+devices, and each of its buckets, except for the last one, holds all of them with other weights. Ceph allows that, and
+`crushtool -c` would take long for a map with more devices. With --maps, the script tests only the first N maps. With
+--jobs, it tests several maps at the same time. At the end, the script tests 2,000 random weights of buckets, from 100
+to 256 TiB, in one more map.
 
-Prints how many weights were tried, and how many came back otherwise. The status is 1 if one did.
+With --monitor, the script instead tests a monitor of Ceph, the server process that keeps the map. `tests/monitor.sh
+start` must have started the monitor in FOLDER. The script sends N random weights to the monitor in exact form. After
+each command, the monitor must have stored the same units. This needs root. With --program, the script sends the
+commands that PROGRAM prints with `--as-ceph`. Without --program, the script writes the commands itself.
+
+The script prints how many weights it has tested, and how many of them came back with other units. It also prints some
+of these weights. The status is 1 if a weight came back with other units.
 """
 
 import argparse
@@ -31,39 +39,47 @@ sys.dont_write_bytecode = True
 TOP = pathlib.Path(__file__).resolve().parent.parent
 sys.path.insert(0, str(TOP / "tests"))
 
+# The number of units in a weight of 1.0, which is one TiB.
 UNITS = 65536
-# Weights in a map, and items of a bucket: more would weigh too much together.
+# The number of weights in a map, and the largest number of items in a bucket. With many more items, a bucket would be
+# too heavy.
 WEIGHTS, HELD = 65536, 500
+# The largest weight of a device, and the largest weight of a bucket, that the script tests.
 HEAVIEST_DEVICE, HEAVIEST_SUM = 100 * UNITS, 256 * UNITS
-# Devices of the monitor's map.
+# The number of devices in the monitor's map.
 DEVICES = 10
 TYPES = "type 0 osd\ntype 1 host\ntype 2 rack\n"
 
 
 def exact(units):
-    """The least number of six digits after the point that isn't below a weight."""
+    """Returns a weight in exact form: the smallest number with six digits after the point that isn't below it."""
     return "{}.{:06}".format(*divmod(-(-units * 10**6 // UNITS), 10**6))
 
 
 def nearest(text):
-    """The units that are nearest to a printed weight."""
+    """Returns the number of units that is nearest to a printed weight."""
     whole, _, digits = text.partition(".")
     scale = 10**len(digits)
     return (2 * int(whole + digits) * UNITS + scale) // (2 * scale)
 
 
 def bucket(kind, name, number, items):
+    """Returns the text of a bucket with the id `-number`. `items` has the names of the items with their units."""
     lines = "".join(f"\titem {item} weight {exact(units)}\n" for item, units in items)
     return f"{kind} {name} {{\n\tid -{number}\n\talg straw2\n\thash 0\n{lines}}}\n"
 
 
 def split(weights, most):
-    """Weights, at most so many in each part."""
+    """Returns the weights as a list of parts. Each part has at most `most` weights."""
     return [weights[start:start + most] for start in range(0, len(weights), most)]
 
 
 def map_of_devices(weights):
-    """The text of a map whose buckets, which are roots, hold the same devices with these weights."""
+    """Returns the text of a map in which several buckets hold the same devices, with these weights as the items'
+    weights.
+
+    No bucket is in another bucket.
+    """
     devices = "".join(f"device {number} osd.{number}\n" for number in range(min(HELD, len(weights))))
     return devices + TYPES + "".join(
         bucket("host", f"h{place}", place + 1, [(f"osd.{number}", units) for number, units in enumerate(part)])
@@ -71,7 +87,10 @@ def map_of_devices(weights):
 
 
 def map_of_buckets(weights):
-    """The text of a map with an empty bucket for each weight, and buckets which hold these with the weights."""
+    """Returns the text of a map with an empty bucket for each weight.
+
+    Other buckets hold these empty buckets, with the weights as the items' weights.
+    """
     hosts = "".join(bucket("host", f"h{number}", number + 1, []) for number in range(len(weights)))
     items = [(f"h{number}", units) for number, units in enumerate(weights)]
     return TYPES + hosts + "".join(bucket("rack", f"r{place}", len(weights) + place + 1, part)
@@ -79,7 +98,7 @@ def map_of_buckets(weights):
 
 
 class Ceph:
-    """crushtool of a folder, run by its own loader, so that it needs no root."""
+    """The crushtool that is installed in a folder. It is run by the folder's own loader, so this needs no root."""
 
     def __init__(self, folder):
         libraries = folder / "usr/lib/x86_64-linux-gnu"
@@ -87,13 +106,18 @@ class Ceph:
                       folder / "usr/bin/crushtool"]
 
     def run(self, *words):
+        """Runs crushtool with these arguments, and returns its output. If crushtool fails, ends the script."""
         ran = subprocess.run([*self.words, *words], capture_output=True, text=True)
         if ran.returncode:
             sys.exit(f"crushtool {' '.join(words)}: status {ran.returncode}\n{ran.stdout[-2000:]}{ran.stderr[-2000:]}")
         return ran.stdout
 
     def weights_of(self, text):
-        """The units of the items of a text that was compiled, in its order: as the dump has them, and as its text says."""
+        """Compiles the text of a map, and returns the units of its items twice, in the order of the text.
+
+        The first list has the units that `crushtool --dump` prints. The second list has the units that are nearest to
+        the weights that `crushtool -d` prints.
+        """
         with tempfile.TemporaryDirectory() as here:
             place, binary = os.path.join(here, "text"), os.path.join(here, "binary")
             pathlib.Path(place).write_text(text)
@@ -106,7 +130,7 @@ class Ceph:
 
 
 def try_map(ceph, text, weights):
-    """How many of the weights of a text's items, in the order of the text, aren't these units."""
+    """Returns how many items of a map don't come back from crushtool with these weights, in the order of the text."""
     dumped, printed = ceph.weights_of(text)
     if len(dumped) != len(weights) or len(printed) != len(weights):
         sys.exit(f"{len(weights)} items, {len(dumped)} in the dump, {len(printed)} in the text")
@@ -117,9 +141,14 @@ def try_map(ceph, text, weights):
 
 
 def printed_commands(program, weights):
-    """The words of the commands that `--as-ceph` prints for these weights of ten devices in turn."""
+    """Returns the commands that `--as-ceph` prints for these weights, each as a list of words without `ceph`.
+
+    The first command gives the first weight to the first of ten devices, the second command gives the second weight to
+    the second device, and so on. After the tenth device comes the first one again.
+    """
     from against_monitor import edited
-    # No device has its first weight again, so that each command changes the map. A unit has 16 digits after the point.
+    # In this map, each device is heavier than all these weights, so that the first command for a device changes the
+    # map. A unit (1/65536) has 16 digits after the point, so with 16 digits each weight is written without rounding.
     text = map_of_devices([HEAVIEST_DEVICE + 1] * DEVICES)
     script = "".join(f"reweight osd.{turn % DEVICES} {units / UNITS:.16f}\n" for turn, units in enumerate(weights))
     lines = edited(program, text, "%operator a\n" + script, "--as-ceph").splitlines()
@@ -127,7 +156,7 @@ def printed_commands(program, weights):
 
 
 def try_monitor(folder, program, weights):
-    """How many of these weights a monitor stores otherwise."""
+    """Returns how many of these weights the monitor stores with other units."""
     from against_monitor import BEGIN, TUNABLES, Monitor
     commands = [["osd", "crush", "reweight", f"osd.{turn % DEVICES}", exact(units)] for turn, units in enumerate(weights)]
     if program:

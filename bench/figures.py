@@ -1,13 +1,25 @@
-"""Measures crushedit on maps as large as a map may be, beside `wc` on the same bytes and Ceph's crushtool.
+"""Measures how much time and memory crushedit takes for maps of up to 65,536 devices, the most that a map may have.
 
     python3 bench/figures.py crates/crushedit/out/crushedit
     python3 bench/figures.py crates/crushedit/out/crushedit --only hosts nest --repeat 3
 
-For each job it prints its bytes, the processor seconds of crushedit, how often these are those of `wc` in the
-locale C.UTF-8, and the most memory that crushedit had, as a multiple of the job's bytes. Each time is the least of
-the repeats, user and system together; the memory is that of one more run under GNU `time`. A `-` stands where a run
-takes longer than the limit, or where there is no GNU `time`. With --crushtool it prints what crushtool takes on the
-map of 60,000 devices, which it compiles, reweights and decompiles.
+A *job* is the text of a map, followed by commands. The script prints a line for each job. The line has the following
+columns:
+
+- `bytes`: the number of bytes of the job
+- `seconds`: the processor seconds of crushedit, user and system time together
+- `wc`: for comparison, the processor seconds of the command `wc` for the same job, in the locale C.UTF-8
+- `ratio`: how many times as long as `wc` crushedit takes
+- `memory`: the most memory that crushedit had at one time, divided by the number of bytes of the job
+
+Each time is the shortest time of all repeats. The script measures the memory in one more run, with GNU `time`. If GNU
+`time` isn't installed, the column `memory` has a `-`. If a run takes longer than the limit, the column `seconds` has a
+`-`, and the rest of the line is missing.
+
+With --crushtool, the script also prints how long Ceph's crushtool takes to compile the map of 60,000 devices, to set
+one weight, and to decompile the map. It prints nothing about crushtool if crushtool isn't installed.
+
+The status is 1 if the program fails.
 """
 
 import argparse
@@ -21,22 +33,24 @@ import tempfile
 from make_job import bucket, map_text
 from times import memory
 
+# The line that ends the text of the map. The commands of the operator `a` follow.
 OPERATOR = "%operator a\n"
+# The largest number of devices of a map, and the largest number of commands of a job.
 MOST = 65536
-# The file of the map since which changes are printed, which has the 60,000 devices as they were.
+# The file for the option `--since`. It has the map of 60,000 devices before the edit.
 SINCE = "since"
 TYPES = ["type 0 osd", "type 1 host", "type 3 rack", "type 11 root"]
 
 
 def flat(devices):
-    """A map whose devices all lie in one root."""
+    """Returns the text of a map in which one root holds all devices."""
     lines = [f"device {number} osd.{number}" for number in range(devices)] + TYPES
     items = [(f"osd.{number}", 1) for number in range(devices)]
     return "\n".join(lines + bucket("root", "default", 1, items)) + "\n"
 
 
 def nest(depth):
-    """A map of buckets in one another, the innermost of which holds a device."""
+    """Returns the text of a map of nested buckets. The innermost bucket holds a device."""
     lines = ["device 0 osd.0"] + TYPES
     below = "osd.0"
     for number in range(depth, 0, -1):
@@ -46,20 +60,25 @@ def nest(depth):
 
 
 def script(count, line):
+    """Returns the commands of an operator: `line(0)`, `line(1)`, and so on, `count` commands in all."""
     return OPERATOR + "".join(line(number) + "\n" for number in range(count))
 
 
 def far(number, count=MOST):
-    """Numbers far from one another, each once."""
+    """Returns a number below `count`. Two numbers that follow one another get results that are far apart.
+
+    Each number below `count` gets another result.
+    """
     return (count - 1 + number * 7919) % count
 
 
 def reweights(number):
+    """Returns a command that sets the weight of a device."""
     return f"reweight osd.{far(number)} {2 + number % 5}.5"
 
 
 def jobs():
-    """Each job's name, its map and its script, made when it is its turn, and the words before it."""
+    """Yields for each job its name, a function that makes the text of the job, and the options of the command line."""
     hosts = (MOST + 19) // 20
     one = script(1, lambda number: "reweight osd.7 2.5")
     yield "hosts 5,000", lambda: map_text(5000) + one, []
@@ -82,7 +101,7 @@ def jobs():
 
 
 def spent(words, path, limit):
-    """The processor seconds of a command; None past the limit."""
+    """Returns the processor seconds of a command, or None if the command takes longer than the limit."""
     with open(path, "rb") as stdin:
         process = subprocess.Popen(
             words, stdin=stdin, stdout=subprocess.DEVNULL, stderr=subprocess.DEVNULL,
@@ -98,7 +117,7 @@ def spent(words, path, limit):
 
 
 def least(words, path, options):
-    """The least time of the repeats."""
+    """Returns the shortest time of all repeats, or None if a run takes longer than the limit."""
     runs = []
     for _ in range(options.repeat):
         run = spent(words, path, options.limit)
@@ -109,7 +128,7 @@ def least(words, path, options):
 
 
 def crushtool(folder, options):
-    """What crushtool takes on the map of 60,000 devices."""
+    """Prints how long crushtool takes for the map of 60,000 devices, if crushtool is installed."""
     if not shutil.which("crushtool"):
         return
     text, compiled, changed = [os.path.join(folder, name) for name in ["map.txt", "map.bin", "new.bin"]]

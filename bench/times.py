@@ -1,20 +1,34 @@
-"""Measures jobs of crushedit beside Ceph's crushtool and `wc` on the same bytes, in one run, and beside another
-program that does such jobs, as an earlier crushedit.
+"""Measures how much time and memory crushedit takes for jobs, and compares it with other programs.
 
     python3 bench/times.py crates/crushedit/out/crushedit
     python3 bench/times.py crates/crushedit/out/crushedit --devices 1000 --calls 1 1000 --rules --repeat 5
     python3 bench/times.py crates/crushedit/out/crushedit --beside earlier/crushedit
     python3 bench/times.py crates/crushedit/out/crushedit --operators 1 4 16
 
-For each size of a map and each number of calls it prints the seconds of crushedit on the job, of the program
-beside it, of crushtool, which compiles the map and decompiles it again and makes no call, and of `wc`, and how
-often crushedit takes the time of each of them. Each time is the least of the repeats, of the whole process; the
-programs take turns, so that all are measured on the same machine as busy as it is. Then it prints the most
-memory that crushedit, the program beside it and crushtool had, in MiB, each of one more run under GNU `time`.
-With --operators the calls of each job are shared among so many operators, for each of these numbers; beside
-crushedit, which runs their scripts at once, stands crushedit with --in-turn, and last the calls that each of
-the two makes in a second, the reading and the printing of the map included.
-A `-` stands where a run takes longer than the limit, or where there is no crushtool or no GNU `time`.
+A *job* is the text of a map, followed by commands. A *call* is one of these commands, and an *operator* is a person
+who gives some of the commands. The script measures a job for each number of devices and each number of calls. The
+other programs are these:
+
+- With --beside, another program that runs the same jobs, such as an earlier version of crushedit.
+- Ceph's `crushtool`. It compiles the map of the job and decompiles it again, and makes no calls.
+- The command `wc`, which counts the words of the job.
+
+For each job, the script prints a line with the following columns:
+
+- The number of devices and the number of calls.
+- The elapsed seconds of each program, from the start to the end of its process. Each time is the shortest time of all
+  repeats. The programs run alternately, so that other work on the machine slows all of them in the same way.
+- For each other program, how many times as long as this program crushedit takes.
+- The most memory that each program had at one time, in MiB. The script doesn't measure the memory of `wc`. The memory
+  is measured in one more run, with GNU `time`.
+
+With --operators, the script divides the calls of each job among N operators, for each given N. There are two runs of
+crushedit: in the first run, the scripts of the operators run at the same time, and in the second run (`in turn`), they
+run one after the other, with the option --in-turn. At the end of the line, the script prints how many calls per second
+each of the two runs makes. This time includes the time to read and to print the map.
+
+If a run takes longer than the limit, or if crushtool or GNU `time` isn't installed, the line has a `-` in place of the
+number. The status is 1 if a program fails.
 """
 
 import argparse
@@ -29,7 +43,10 @@ from make_job import map_text, script
 
 
 def seconds(commands, limit):
-    """How long the commands take together, each with its standard input from a file; None past the limit."""
+    """Returns how many seconds the commands take together, or None if a command takes longer than the limit.
+
+    Each command comes with the path of the file that is its standard input.
+    """
     start = time.perf_counter()
     for words, path in commands:
         with open(path, "rb") as stdin:
@@ -41,7 +58,11 @@ def seconds(commands, limit):
 
 
 def least(contenders, limit, repeat):
-    """The least time of each contender that there is. They take turns; one that was past the limit gets no more."""
+    """Returns the shortest time of each contender, or None for a contender that takes longer than the limit.
+
+    A contender is a program, with one or more commands. The contenders run alternately. After a contender has taken
+    longer than the limit, it isn't run again.
+    """
     times = {name: [] for name in contenders}
     for _ in range(repeat):
         for name, commands in contenders.items():
@@ -51,10 +72,11 @@ def least(contenders, limit, repeat):
 
 
 def memory(commands):
-    """The most memory that one of the commands has, in MiB; None without GNU time.
+    """Returns the most memory that one of the commands has at one time, in MiB, or None if GNU time isn't installed.
 
-    It is GNU time that starts them: what the system tells of a process counts what the starting one had, and
-    Python has more than a small job takes."""
+    GNU time starts the commands. If Python started them, the number of the system would include the memory that Python
+    has when it starts a process, and this is more than a small job needs.
+    """
     teller = shutil.which("time")
     if teller is None:
         return None
@@ -68,14 +90,17 @@ def memory(commands):
 
 
 def shown(number, decimals):
+    """Returns a number with so many decimals, or `-` if there is no number."""
     return "-" if number is None else f"{number:.{decimals}f}"
 
 
 def ratio(ours, other):
+    """Returns the quotient of two times, or None if one of them is missing."""
     return None if ours is None or other is None else ours / other
 
 
 def row(folder, devices, calls, operators, options):
+    """Measures all programs with one job, and returns the cells of the job's line."""
     text = map_text(devices, options.rules)
     files = {name: os.path.join(folder, name) for name in ["map.txt", "map.bin", "job"]}
     with open(files["map.txt"], "w") as out:
@@ -106,6 +131,7 @@ def row(folder, devices, calls, operators, options):
 
 
 def names(options):
+    """Returns the names of the programs, in the order of the columns."""
     in_turn = ["in turn"] if options.operators else []
     return ["crushedit"] + in_turn + (["beside"] if options.beside else []) + ["crushtool", "wc"]
 

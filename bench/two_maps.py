@@ -1,12 +1,22 @@
-"""Measures what is printed in the place of a map, `--tree`, `--since` and `--to`, beside one another and `wc`.
+"""Measures how long crushedit takes with the options `--tree`, `--since` and `--to`, for pairs of maps.
 
     python3 bench/two_maps.py crates/crushedit/out/crushedit [--repeat 5] [--limit 120] [--only WORD ..]
 
-For each two maps it prints the bytes of the one, the processor seconds of `wc` on it, of its `--tree`, of `--since` the
-other map and of `--to` it, the least of the repeats, and how often `--since` takes the time of `--tree`, and `--to` that of
-`--since`. A `-` stands where a run takes longer than the limit. The status is 1 where `--since` takes more than three
-times as long as `--tree`, or `--to` more than four times as long as `--since`, ten times where the maps have nothing in
-common: both maps are read there, and of such two the plan has 129,000 commands.
+`--tree` prints the first map as a tree. `--since` prints what differs between the two maps. `--to` finds the *plan*:
+the commands that change the first map into the second map. For each pair, the script prints a line with these columns:
+
+- the number of bytes of the first map
+- for comparison, the processor seconds of the command `wc` for the first map
+- the processor seconds with `--tree`, `--since` and `--to`. Each time is the shortest time of all repeats
+- how many times as long as `--tree` the run with `--since` takes, and how many times as long as `--since` the run with
+  `--to` takes
+
+If a run takes longer than the limit, the line has a `-` in place of the number. The status is 1 in these cases:
+
+- A run takes longer than the limit.
+- `--since` takes more than three times as long as `--tree`. With `--tree`, crushedit reads only one map.
+- `--to` takes more than four times as long as `--since`. For the pair of maps that have nothing in common, `--to` may
+  take ten times as long, because the plan of this pair has 129,000 commands.
 """
 
 import argparse
@@ -17,13 +27,20 @@ import tempfile
 from figures import least
 from hostile import TYPES, bucket
 
+# The numbers of devices, hosts and racks.
 DEVICES, HOSTS, RACKS = 60000, 3000, 60
+# The number of nested buckets.
 DEPTH = 4095
+# The number of rules, and the number of steps of a rule.
 RULES, STEPS = 256, 64
 
 
 def grouped(prefix, first_id, moved=False):
-    """A map of devices in hosts in racks, all in one root; where that is asked for the first rack stands in another."""
+    """Returns the lines of a map of devices in hosts, which are in racks, which are in the root `default`.
+
+    If `moved`, the first rack is in the root `other`, and otherwise this root is empty. The names of the buckets begin
+    with `prefix`, and the ids of the devices begin at `first_id`.
+    """
     lines, racks = list(TYPES), []
     devices = [f"osd.{first_id + number}" for number in range(DEVICES)]
     for rack in range(RACKS):
@@ -40,7 +57,10 @@ def grouped(prefix, first_id, moved=False):
 
 
 def nest(last):
-    """A map of buckets in one another, the innermost of which holds all devices, the last of this weight."""
+    """Returns the lines of a map of nested buckets. The innermost bucket holds all devices.
+
+    The last device has the weight `last / 2`, and each other device has the weight 0.5.
+    """
     weights = [1] * (DEVICES - 1) + [last]
     lines = [f"device {number} osd.{number}" for number in range(DEVICES)] + TYPES
     below, names = [(f"osd.{number}", weight / 2) for number, weight in enumerate(weights)], []
@@ -52,7 +72,11 @@ def nest(last):
 
 
 def with_rules(first):
-    """A map of devices of one class in one root, and rules whose steps all take this root and class. The first device has the class `first`."""
+    """Returns the lines of a map of devices in one root, and of rules.
+
+    The first device has the class `first`, and all other devices have the class `hdd`. Each step of each rule takes
+    the root and the class `hdd`.
+    """
     lines = [f"device {number} osd.{number} class {'hdd' if number else first}" for number in range(DEVICES)] + TYPES
     lines += bucket("root", "default", 1, [(f"osd.{number}", 1) for number in range(DEVICES)])
     steps = ["step take default class hdd"] * STEPS
@@ -61,7 +85,8 @@ def with_rules(first):
     return lines
 
 
-# What each two maps are called, both, and how often `--to` may take the time of `--since`.
+# Each pair: its name, functions that make the first map and the second map, and how many times as long as `--since`
+# the run with `--to` may take.
 PAIRS = [
     ("a rack moved", lambda: grouped("", 0), lambda: grouped("", 0, moved=True), 4),
     ("nothing in common", lambda: grouped("", 0), lambda: grouped("new", 70000), 10),
@@ -71,6 +96,7 @@ PAIRS = [
 
 
 def ratio_of(one, other):
+    """Returns the quotient of two times, or `-` if one of them is missing."""
     return "-" if one is None or other is None else f"{one / other:.1f}"
 
 

@@ -1,20 +1,31 @@
-"""Measures the verbs beside the plain commands that do the same, and how long `apply` looks for lost changes.
+"""Measures how long verbs take, compared with command lines without a verb that do the same.
 
     python3 bench/verbs.py crates/crushedit/out/crushedit [--repeat 5] [--limit 120]
 
-For each map it prints processor seconds, the least of the repeats:
+A *verb* is the first word of a command line, such as `diff` or `apply`. A change is *lost* if one script makes the
+change and another script undoes it. The script also measures how long `apply` takes to look for lost changes.
 
-- `since`: `--explain --since` the map, of the map after two scripts
-- `diff`: `diff` of the same two maps
-- `plain`: `--explain --since` the map, of a job that has the map and the scripts
-- `dry run`: `apply --dry-run --last-wins` of the map and the scripts, which doesn't look for lost changes
-- `apply`: `apply` of the map and the scripts, which looks for lost changes
-- `last wins`: `apply --last-wins` of them
+For each map, the script prints a line with processor seconds. Each time is the shortest time of all repeats:
 
-The scripts give other weights to a thousand devices each, and none of the same device, so that no change is lost. A verb
-always explains, and it parses each of its maps once, as the plain command does. The status is 1 where `diff` or the dry run
-takes more than one and a quarter times as long as the plain command beside it, or `apply` more than three times as long as
-with `--last-wins`.
+- `since`: `--explain --since` prints what differs between the map and the map that two scripts have changed
+- `diff`: the verb `diff` does the same
+- `plain`: `--explain --since` prints what differs between the map and the result of a job, which has the map and the
+  two scripts
+- `dry run`: `apply --dry-run --last-wins` does the same, and doesn't look for lost changes
+- `apply`: `apply` applies the two scripts to the map, and looks for lost changes
+- `last wins`: `apply --last-wins` applies the two scripts to the map, and doesn't look for lost changes
+
+The last column has the time of `apply`, divided by the time of `apply --last-wins`. A `-` means that a run took longer
+than the limit. Each of the two scripts sets the weights of a thousand devices. No device is in both scripts, so no
+change is lost. A verb always explains errors and refusals, so the command lines without a verb have the option
+--explain. A verb parses each map once, and so does a command line without a verb.
+
+The status is 1 in these cases:
+
+- A run takes longer than the limit.
+- `diff` takes more than one and a quarter times as long as `since`.
+- `dry run` takes more than one and a quarter times as long as `plain`.
+- `apply` takes more than three times as long as `last wins`.
 """
 
 import argparse
@@ -26,12 +37,14 @@ import tempfile
 from figures import least
 from two_maps import grouped, nest
 
+# The number of commands of a script.
 EDITS = 1000
+# The names of the maps, with functions that make the maps.
 MAPS = [("60,000 devices in 3,000 hosts", lambda: grouped("", 0)), ("a nest of 4,095 buckets", lambda: nest(1))]
 
 
 def script(first):
-    """Gives each of a thousand devices another weight."""
+    """Returns a script that sets the weights of a thousand devices, from the device `osd.first` on."""
     return "".join(f"reweight osd.{number} 1.{number % 7 + 1}\n" for number in range(first, first + EDITS))
 
 
