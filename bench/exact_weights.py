@@ -75,11 +75,7 @@ def split(weights, most):
 
 
 def map_of_devices(weights):
-    """Returns the text of a map in which several buckets hold the same devices, with these weights as the items'
-    weights.
-
-    No bucket is in another bucket.
-    """
+    """Returns the text of a map in which several roots hold the same devices, with these weights for the items."""
     devices = "".join(f"device {number} osd.{number}\n" for number in range(min(HELD, len(weights))))
     return devices + TYPES + "".join(
         bucket("host", f"h{place}", place + 1, [(f"osd.{number}", units) for number, units in enumerate(part)])
@@ -87,9 +83,9 @@ def map_of_devices(weights):
 
 
 def map_of_buckets(weights):
-    """Returns the text of a map with an empty bucket for each weight.
+    """Returns the text of a map with an empty bucket for each weight, and roots that hold these empty buckets.
 
-    Other buckets hold these empty buckets, with the weights as the items' weights.
+    In the roots, the empty buckets have these weights.
     """
     hosts = "".join(bucket("host", f"h{number}", number + 1, []) for number in range(len(weights)))
     items = [(f"h{number}", units) for number, units in enumerate(weights)]

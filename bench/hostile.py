@@ -1,17 +1,27 @@
-"""Runs crushedit on inputs that are made to take long, and prints how many processor seconds each takes.
+"""Measures how many processor seconds crushedit takes for inputs that are made to take long.
 
     python3 bench/hostile.py crates/crushedit/out/crushedit [--megabytes 1 16] [--limit 5 60] [--only WORD ..]
     python3 bench/hostile.py --write FOLDER [--megabytes 1 16] [--only WORD ..]
 
-Each input has at most so many bytes, a megabyte being 1,000,000. Printed are its name, its bytes, the seconds,
-the status and standard error. The bound is 5 seconds for an input of 1 MB, 60 for one of 16 MB: a limit for each of
-the sizes. A run that takes longer is ended, and `> LIMIT` is printed; then, and where another signal ended a run,
-the status is 1. With --write the inputs are written into the folder and nothing is run. An input of a plan has two files:
-a map, and the wanted map, whose name ends in `.wanted`. Both files together have the size.
+The script runs crushedit with each input in each size of --megabytes. A megabyte is 1,000,000 bytes, and an input has
+at most this number of bytes. The only exception is `full_swaps`: its map alone has 2 MB. For each run, the
+script prints the name of the input, its bytes, the processor seconds, the status of crushedit, and what crushedit has
+written to standard error.
 
-The inputs `documents_..` are one map, whose devices are in the innermost of nested buckets. They are run with the
-options of WORDS. The JSON documents of this map may take three times as long as its tree. If one takes longer,
-`> 3 x TREE` is printed behind its line, and the status is 1.
+--limit has one limit for each size. Without --limit, crushedit may take 5 seconds for inputs of at most 1 MB, and 60
+seconds for larger inputs. If a run takes longer, the script ends the run and prints `> LIMIT` in place of the seconds.
+With --write, the script writes the inputs into FOLDER and runs nothing.
+
+An input for `--to`, which finds the commands that change one map into another map, has two files: a map, and the
+wanted map, whose name ends in `.wanted`. The size of the input is the size of both files together.
+
+The three inputs whose names begin with `documents_` are the same map, in which the devices are in the innermost of
+nested buckets. The script runs them with the options of WORDS, which print a tree or a JSON document. If a JSON
+document takes more than three times as long as the tree, the script prints `> 3 x TREE` after the status, where TREE
+is the time of the tree.
+
+The status is 1 in these cases: a run takes longer than its limit, a signal ends a run, or a JSON document takes more
+than three times as long as the tree.
 """
 
 import argparse
@@ -23,19 +33,26 @@ import subprocess
 import sys
 import tempfile
 
+# The largest numbers of devices and buckets of a map, and the largest number of calls (commands and batches) of a job.
 MOST_DEVICES, MOST_BUCKETS, MOST_CALLS = 65536, 4096, 65536
 TYPES = ["type 0 osd", "type 1 host", "type 2 chassis", "type 3 rack", "type 11 root"]
+# The line that ends the text of the map. The commands of the operator `a` follow.
 OPERATOR = "%operator a"
-# From here on, away from 0, ids are found by a hash and not in a table.
+# The index of a map finds an item by its id. If the id is nearer to 0 than this number, the item may be in a vector.
+# The items with other ids, the *far* ids, are in a hash table.
 FAR = 131072
 
 
 def bytes_of(lines):
+    """Returns the number of bytes of these lines, with their line feeds."""
     return sum(len(line) + 1 for line in lines)
 
 
 def filled(lines, size, more, most=MOST_CALLS):
-    """The lines, and of those that `more` makes of a number as many as there is room for."""
+    """Returns the lines, followed by `more(0)`, `more(1)`, and so on.
+
+    Appends as many of them as fit into `size` bytes, but at most `most`.
+    """
     left, lines = size - bytes_of(lines), list(lines)
     for number in range(most):
         line = more(number)
@@ -47,12 +64,13 @@ def filled(lines, size, more, most=MOST_CALLS):
 
 
 def bucket(kind, name, number, items, ids=()):
+    """Returns the lines of a bucket with the id `-number`. `ids` has the lines with its class ids."""
     lines = [f"{kind} {name} {{", f"id -{number}", *ids, "alg straw2"]
     return lines + [f"item {item} weight {weight}" for item, weight in items] + ["}"]
 
 
 def flat(devices, hosts=1, weight=0.5):
-    """A map of devices in so many hosts, and a root with these."""
+    """Returns the lines of a map of devices in hosts, and of a root that holds the hosts."""
     lines = [f"device {number} osd.{number}" for number in range(devices)] + TYPES
     names = []
     for host in range(hosts):
@@ -63,7 +81,10 @@ def flat(devices, hosts=1, weight=0.5):
 
 
 def nest(depth=MOST_BUCKETS, first_id=1, devices=1):
-    """A map of buckets in one another, the innermost of which holds the devices. Their ids begin at that."""
+    """Returns the lines of a map of nested buckets. The innermost bucket holds the devices.
+
+    The id of the outermost bucket is `-first_id`.
+    """
     lines = [f"device {number} osd.{number}" for number in range(devices)] + TYPES
     items = [(f"osd.{number}", 1) for number in range(devices)]
     for number in range(depth, 0, -1):
@@ -73,7 +94,10 @@ def nest(depth=MOST_BUCKETS, first_id=1, devices=1):
 
 
 def fork_at_the_foot(first_id, beside=()):
-    """A nest whose innermost two buckets stand side by side, and the device in the one, behind so many empty hosts."""
+    """Returns the lines of a map of nested buckets, of which the innermost holds two hosts. One host holds the device.
+
+    Before the nested buckets, the map has an empty host with the id `-number` for each number of `beside`.
+    """
     depth = MOST_BUCKETS - 2 - len(beside)
     lines = ["device 0 osd.0"] + TYPES
     for number in beside:
@@ -88,14 +112,17 @@ def fork_at_the_foot(first_id, beside=()):
 
 
 def long_name(number):
-    """Names that differ in their last bytes alone."""
+    """Returns a name of 255 bytes. Two such names differ only in their last bytes."""
     return f"{number:0>255}"
 
 
 def devices_for(size):
-    """How many devices of a flat map take half of so many bytes, with their items."""
+    """Returns how many devices, with their items, take half of `size` bytes in the map of `flat`."""
     return min(MOST_DEVICES, size // 2 // 50)
 
+
+# Most of the following functions return the lines of one input, for a size in bytes. The name of such a function is
+# the name of the input.
 
 def deep_reweights(size):
     return filled(nest() + [OPERATOR], size, lambda n: f"reweight osd.0 {n % 7}.5")
@@ -114,7 +141,7 @@ def deep_renames(size):
 
 
 def deep_moves(size):
-    """The inner half of a nest goes to another root and back."""
+    """Moves the inner half of the nested buckets to another root and back, again and again."""
     lines = nest(MOST_BUCKETS - 1) + bucket("root", "other", MOST_BUCKETS, [])
     return filled(lines + [OPERATOR], size, lambda n: f"move b2048 {['root=other', 'rack=b2047'][n % 2]}")
 
@@ -132,7 +159,10 @@ def deep_pairs_of_edits(size):
 
 
 def deep_swaps(size):
-    """Two nests side by side exchange their items again and again."""
+    """Exchanges the items of buckets of one nest with those of buckets of another nest.
+
+    A nest is a chain of nested buckets.
+    """
     half = MOST_BUCKETS // 2
     lines = ["device 0 osd.0", "device 1 osd.1"] + TYPES
     for side in range(2):
@@ -144,53 +174,61 @@ def deep_swaps(size):
 
 
 def moves_at_the_foot(size, first_id=1, beside=()):
-    """One batch in which the device goes from one bucket at the foot of a nest to the one beside it, and back."""
+    """One batch that moves the device between the two innermost hosts, again and again."""
     lines = filled(fork_at_the_foot(first_id, beside) + [OPERATOR, "begin"], size - 7,
                    lambda n: f"move osd.0 host={['right', 'left'][n % 2]}", 65536)
     return lines + ["commit"]
 
 
 def moves_at_the_foot_of_far_ids(size):
-    """The same, with ids that no table has, so that a climb begins with a hash."""
+    """The same with far ids, so that each way up from a host begins in the hash table."""
     return moves_at_the_foot(size, FAR)
 
 
 def moves_at_the_foot_of_near_and_far_ids(size):
-    """The same behind a bucket of a near id."""
+    """The same with far ids, after an empty host with the id -1."""
     return moves_at_the_foot(size, FAR, [1])
 
 
 def weights_at_the_foot(size, first_id=1):
+    """One batch that sets the weight of the device in the innermost of nested buckets again and again."""
     lines = filled(nest(first_id=first_id) + [OPERATOR, "begin"], size - 7, lambda n: f"reweight osd.0 {n % 7}.5", 65536)
     return lines + ["commit"]
 
 
 def weights_at_the_foot_of_far_ids(size):
+    """The same with far ids."""
     return weights_at_the_foot(size, FAR)
 
 
 def swaps_at_the_foot_of_far_ids(size):
-    """One batch of exchanges of the two buckets at the foot of a nest, each of which finds four ways up."""
+    """One batch that exchanges the two innermost hosts, which have far ids, again and again.
+
+    Each exchange finds four ways from a host up to the root.
+    """
     lines = filled(fork_at_the_foot(FAR) + [OPERATOR, "begin"], size - 7, lambda n: "swap-bucket left right", 65536)
     return lines + ["commit"]
 
 
 def classes_at_the_foot(size):
-    """One batch of classes for the device at the foot of a nest."""
+    """One batch that sets and removes the class of the device in the innermost of nested buckets, again and again."""
     lines = filled(nest() + [OPERATOR, "begin"], size - 7,
                    lambda n: ["set-device-class c osd.0", "rm-device-class osd.0"][n % 2], 65536)
     return lines + ["commit"]
 
 
 def batches_of_a_far_device(size):
-    """Batches of two on 10,000 devices, of which one has the last id that a table of places may have."""
+    """Batches of two commands on a map of 10,001 devices, one of which has the last id that isn't far."""
     lines = flat(10000, 100)
     lines = [f"device {FAR - 1} far"] + lines
     return filled(lines + [OPERATOR], size, lambda n: f"begin\nreweight osd.{n % 10000} {n % 7}\nreweight osd.0 9\ncommit")
 
 
 def full_swaps(size):
-    """Two hosts of as many devices as there may be exchange their items; 2 MB of map, whatever the size."""
+    """Exchanges the items of two hosts that together hold nearly all devices that a map may have.
+
+    The map has 2 MB, and the commands have at most `size` bytes.
+    """
     lines = [f"device {n} {n}" for n in range(MOST_DEVICES)] + TYPES
     for host, name in enumerate("ab"):
         lines += [f"host {name} {{", f"id -{host + 1}", "alg straw2"]
@@ -199,7 +237,7 @@ def full_swaps(size):
 
 
 def swaps_of_far_ids(size):
-    """One batch of exchanges of two hosts whose devices have far ids."""
+    """One batch that exchanges two hosts, whose devices have far ids, again and again."""
     count = min(MOST_DEVICES, size // 2 // 60)
     lines = [f"device {FAR + n} osd.{FAR + n}" for n in range(count)] + TYPES
     for host in range(2):
@@ -209,48 +247,48 @@ def swaps_of_far_ids(size):
 
 
 def the_end_of_a_bucket(size):
-    """A device at the end of one bucket is set again and again, after the first has left it."""
+    """Removes the first device of a host, and then sets the weight of the last device again and again."""
     count = devices_for(size)
     lines = flat(count, 1, 0.25) + [OPERATOR, "rm osd.0"]
     return filled(lines, size, lambda n: f"set osd.{count - 1} {n % 2} host=h0")
 
 
 def batches_of_two_on(lines, edits):
-    """Batches of two edits, which leave the map as it was, on a map of a few lines."""
+    """Returns the function of an input: batches of edits that leave the map as it was, on a map of a few lines."""
     return lambda size: filled(lines + [OPERATOR], size, lambda n: f"begin\n{edits}\ncommit")
 
 
-# One device that no bucket holds, whose id is the last that a table of places may have
+# The map has one device, which no bucket holds. Its id is the last one that isn't far.
 batches_of_a_far_class = batches_of_two_on([f"device {FAR - 1} x"], "set-device-class c x\nrm-device-class x")
 
-# The same of two devices of which one is behind that table, each of its own kind of look-up
+# The same with two devices, of which one has a far id.
 batches_of_near_and_far_classes = batches_of_two_on(
     [f"device {FAR - 1} x", f"device {FAR} y"], "set-device-class c x\nset-device-class c y\nrm-device-class x\nrm-device-class y")
 
-# Two roots of far ids
+# Two roots with the last ids that aren't far.
 batches_of_far_roots = batches_of_two_on(
     TYPES + bucket("root", "a", FAR - 1, []) + bucket("root", "b", FAR - 2, []), "swap-bucket a b\nswap-bucket a b")
 
-# A device and a bucket of far ids
+# A device and a bucket with the last ids that aren't far.
 batches_of_a_far_device_and_a_far_bucket = batches_of_two_on(
     [f"device {FAR - 1} x"] + TYPES + bucket("host", "h", FAR - 1, [("x", 1)]), "rename-bucket h g\nrename-bucket g h")
 
 
 def batches_of_a_move_and_a_weight(size):
-    """A device goes from one of two hosts to the other, and gets a weight."""
+    """Batches that move a device between two hosts, and set its weight."""
     count = devices_for(size)
     lines = flat(count, 2)
     return filled(lines + [OPERATOR], size, lambda n: f"begin\nmove osd.0 host=h{(n + 1) % 2}\nreweight osd.0 {n % 7}\ncommit")
 
 
 def batches_of_new_names(size):
-    """A host gets another name and its own again, in batches on a map of many devices."""
+    """Batches that give a host another name and then its old name again, on a map of many devices."""
     lines = flat(devices_for(size), 2)
     return filled(lines + [OPERATOR], size, lambda n: "begin\nrename-bucket h0 x\nrename-bucket x h0\ncommit")
 
 
 def batches_of_long_names(size):
-    """Batches of two on a map whose names are as long as a name may be."""
+    """Batches of two commands on a map whose devices have the longest names that are allowed."""
     lines = filled([], size // 2, lambda n: f"device {n} {long_name(n)}", MOST_DEVICES)
     last = len(lines)
     lines += TYPES + bucket("host", "h", 1, [(long_name(n), 0.25) for n in range(0, last, 8)])
@@ -258,7 +296,7 @@ def batches_of_long_names(size):
 
 
 def a_wide_level_over_a_nest(size):
-    """A root of many devices, behind which a nest hangs at whose foot a device is weighed."""
+    """Sets the weight of the device in the innermost of nested buckets, whose root also holds many other devices."""
     count = devices_for(size) // 2
     lines = ["device 0 osd.0"] + [f"device {n} osd.{n}" for n in range(1, count)] + TYPES
     below = "osd.0"
@@ -270,7 +308,7 @@ def a_wide_level_over_a_nest(size):
 
 
 def batches_of_sixteen_operators(size):
-    """Each of sixteen operators makes ten batches on a map of as many devices as fit."""
+    """Ten batches of each of sixteen operators, on a map with as many devices as fit."""
     sections = [line for o in range(16) for line in [f"%operator o{o}"] + ["begin", "reweight osd.0 1", "reweight osd.1 2", "commit"] * 10]
     count = min(MOST_DEVICES - 1, (size - bytes_of(sections)) // 55)
     return flat(count, 100, 0.25) + sections
@@ -290,10 +328,10 @@ def long_absent_names(size):
 
 
 def colliding(count):
-    """So many names whose hashes without keys agree in the bits that choose their place in a table of as many.
+    """Returns `count` names that would be in the same place of a hash table with this many names.
 
-    Without keys a name is hashed by SipHash-1-3 with keys of zeros, as Python from 3.11 on hashes bytes where
-    PYTHONHASHSEED is 0.
+    The hashes agree in the bits that choose the place, if the hash function has no secret keys. The hash function is
+    SipHash-1-3, with zeros for keys. If PYTHONHASHSEED is 0, Python 3.11 and later versions hash bytes in this way.
     """
     bits = max(count // 9, 1).bit_length()
     found = subprocess.run([sys.executable, "-c", COLLIDING, str(count), str(bits)], stdout=subprocess.PIPE,
@@ -301,6 +339,7 @@ def colliding(count):
     return found.stdout.decode().split()
 
 
+# The program that finds these names. Its arguments are the number of names, and the number of bits that must agree.
 COLLIDING = """
 import sys
 if sys.hash_info.algorithm != "siphash13":
@@ -318,7 +357,7 @@ while count:
 
 
 def colliding_names(size):
-    """Devices whose names collide, and edits of names that collide with them and that none has."""
+    """Devices whose names collide, and edits of items that don't exist and whose names collide with these names."""
     count = min(16000, size // 2 // 35)
     names = colliding(count + count // 4)
     lines = [f"device {number} {name}" for number, name in enumerate(names[:count])]
@@ -345,7 +384,7 @@ def batches_of_two(size):
 
 
 def refused_batches(size):
-    """The last edit of each batch is refused, so that what the others made is let go."""
+    """Batches whose last edit is refused, so that the other edit of the batch is undone."""
     count = devices_for(size)
     return filled(flat(count, 100) + [OPERATOR], size,
                   lambda n: f"begin\nreweight osd.{n % count} {n % 7}\nrm x\ncommit")
@@ -363,14 +402,14 @@ def removals_at_the_front(size):
 
 
 def removals_taken_back(size):
-    """One batch takes out all devices of a host, the first each time, and is refused."""
+    """One batch that removes the devices of a host, always the first one, and then is refused."""
     count = devices_for(size)
     lines = filled(flat(count) + [OPERATOR, "begin"], size - 12, lambda n: f"rm osd.{n}", min(count, MOST_CALLS - 1))
     return lines + ["rm x", "commit"]
 
 
 def names_taken_back(size):
-    """One batch at the foot of a nest renames the innermost again and again, and is refused."""
+    """One batch that renames the innermost of nested buckets again and again, and then is refused."""
     lines = filled(nest() + [OPERATOR, "begin"], size - 12, lambda n: f"rename-bucket {['b4096 c', 'c b4096'][n % 2]}", MOST_CALLS - 1)
     return lines + ["rm x", "commit"]
 
@@ -411,7 +450,7 @@ def pairs_over_types(size):
 
 
 def routes_without_room(size):
-    """Each call would make sixteen buckets, of which the map has no room for all."""
+    """Edits that would each create sixteen buckets, which is one more than the map has room for."""
     lines = TYPES + [f"type {number} t{number}" for number in range(20, 36)]
     lines += [line for n in range(MOST_BUCKETS - 15) for line in bucket("rack", f"b{n}", n + 1, [])]
     pairs = " ".join(f"t{number}=y{number}" for number in range(20, 36))
@@ -426,7 +465,10 @@ def class_ids(size):
 
 
 def new_buckets_of_class_ids(size):
-    """Ids nearest to -1 belong to classes, so each new bucket looks behind them all."""
+    """Creates a bucket and removes it, again and again.
+
+    The class ids of the map are the ids nearest to 0, so the search for a free id goes through all of them.
+    """
     lines = filled(TYPES, size // 2, lambda n: "\n".join(bucket(
         "rack", f"b{n}", 100000 + n, [], [f"id -{n * 16 + 1 + k} class c{k}" for k in range(16)])), MOST_BUCKETS // 2)
     return filled(lines + [OPERATOR], size, lambda n: f"{['add-bucket x rack', 'rm x'][n % 2]}")
@@ -465,25 +507,28 @@ def spaces_of_operators(size):
 
 
 def documents_of_a_nest(size):
-    """A nest of 4,000 buckets, and at its foot as many devices as there is room for."""
+    """A map of 4,000 nested buckets. The innermost bucket holds as many devices as fit, but at most 32,768."""
     room = size - bytes_of(nest(4000))
     return nest(4000, devices=min(MOST_DEVICES // 2, room // 50))
 
 
-# Inputs that are run with options
+# The inputs that are run with options, and these options.
 WORDS = {"documents_tree": ["--tree"], "documents_map_as_json": ["--json"], "documents_tree_as_json": ["--json", "--tree"]}
 
-# How many times as long as the tree the documents may take
+# How many times as long as the tree a JSON document may take.
 MOST_TREES = 3
 
 
 def planned(words, make):
-    """An input of `--to`: the lines of a map, those of the wanted map, and more words of the command line."""
+    """Returns the function of an input for `--to`. `words` has further options.
+
+    `make` returns the lines of a map and the lines of the wanted map.
+    """
     return lambda size: (words, *make(size))
 
 
 def other_names_of_a_nest(size):
-    """Each bucket of a nest is to have the name of the next one inside it, and the innermost that of the outermost."""
+    """Each of the nested buckets gets the name of the bucket inside it, and the innermost that of the outermost."""
     depth = min(MOST_BUCKETS, size // 2 // 70)
     lines = nest(depth)
     names = {f"b{number}": f"b{number % depth + 1}" for number in range(1, depth + 1)}
@@ -491,7 +536,7 @@ def other_names_of_a_nest(size):
 
 
 def other_weights_at_the_foot(size, depth=4000):
-    """Each device at the foot of a nest is to have a weight of its own."""
+    """Each device in the innermost of nested buckets gets another weight than all other devices."""
     depth = min(depth, size // 4 // 70)
     count = min(MOST_DEVICES, (size - 2 * 70 * depth) // 2 // 60)
     head = [f"device {number} osd.{number}" for number in range(count)] + TYPES
@@ -506,7 +551,7 @@ def other_weights_at_the_foot(size, depth=4000):
 
 
 def other_places_at_the_foot(size):
-    """Each device of one of two hosts at the foot of a nest is to be in the other."""
+    """All devices move from one of the two hosts in the innermost bucket to the other host."""
     depth = min(4000, size // 4 // 70)
     count = min(MOST_DEVICES, (size - 2 * 70 * depth) // 2 // 60)
     head = [f"device {number} osd.{number}" for number in range(count)] + TYPES
@@ -525,8 +570,11 @@ def other_places_at_the_foot(size):
 
 
 def names_that_help_nothing(size):
-    """By their ids, hosts at the foot of a nest are to exchange their names. By their names alone, only their algorithms
-    differ, which no command sets."""
+    """The hosts in the innermost of nested buckets get each other's names, and another algorithm.
+
+    If the program compares the hosts by their ids, their names differ. If it compares them by their names, only their
+    algorithms differ, which no command can set.
+    """
     half = min(MOST_BUCKETS // 2, size // 4 // 70)
 
     def lines(turn, alg):
@@ -541,6 +589,8 @@ def names_that_help_nothing(size):
     return lines(0, "straw2"), lines(1, "list")
 
 
+# The inputs for `--to`, and all other inputs: the name of each input, and the function that makes it for a size in
+# bytes.
 PLANS = {
     "other_names_of_a_nest": planned([], other_names_of_a_nest),
     "other_names_under_a_nest": planned(["--under", "b1"], other_names_of_a_nest),
@@ -567,7 +617,10 @@ INPUTS = {
 
 
 def timed(program, job, limit, words=()):
-    """The processor seconds that the job takes with these words, or None past the limit, the status, and standard error."""
+    """Runs a job with these options. Returns the processor seconds, the status, and what standard error has.
+
+    If the run takes longer than the limit, the seconds are None.
+    """
 
     def limited():
         resource.setrlimit(resource.RLIMIT_CPU, (limit, limit + 1))
@@ -583,7 +636,7 @@ def timed(program, job, limit, words=()):
 
 
 def written(folder, name, made):
-    """Writes an input into a folder. Returns its files, of which the first is the job, and the words to run it with."""
+    """Writes an input into a folder. Returns the files of the input, first the job, and the options to run it with."""
     words, *texts = made if isinstance(made, tuple) else ([], made)
     files = [os.path.join(folder, name + end) for end, _ in zip(("", ".wanted"), texts)]
     for file, lines in zip(files, texts):

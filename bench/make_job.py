@@ -38,7 +38,7 @@ RULE = [
 
 
 def bucket(kind, name, number, items):
-    """Returns the lines of a bucket with the id `-number`. `items` has the names of the items, with twice their weights."""
+    """Returns the lines of a bucket with the id `-number`. `items` has pairs of a name and twice a weight."""
     lines = [f"{kind} {name} {{", f"\tid -{number}", "\talg straw2", "\thash 0"]
     lines += [f"\titem {item} weight {weight / 2:.5f}" for item, weight in items]
     return lines + ["}"]
@@ -50,7 +50,7 @@ def grouped(things, size):
 
 
 def map_text(devices, rules=False):
-    """Returns the text of the map."""
+    """Returns the text of a map with this number of devices. With `rules`, the map also has tunables and a rule."""
     lines = TUNABLES if rules else []
     lines = lines + [f"device {number} osd.{number}" for number in range(devices)]
     lines += ["type 0 osd", "type 1 host", "type 3 rack", "type 11 root"]
