@@ -1,25 +1,36 @@
-# The usual targets on top of the commands of the Rattle toolchain, `rt`.
+# The targets of `make`. They run the commands of the Rattle toolchain, `rt`, and the scripts of this repository.
 #
-#   make           proves the program with all it stands on, and builds it
-#   make try       shows what JOB, by default an example, changes, without proving anything, and leaves nothing;
-#                  `make try JOB=my.job ARGS=--in-turn` runs a job of your own by other words
-#   make test      all tests, the stored runs and trials but two, without proving anything
-#   make check     the merge gate: everything from nothing, the edits that must fail, the tests
-#   make install   the program, the recipe and their manual pages below PREFIX, which is /usr/local if nothing is said
-#   make dist      the same as an archive and, where dpkg-deb is there, a package of Debian, below out/
-#   make manual    writes the manual page out of the help, which `make check` compares
-#   make tables    writes what the last `make check` took into CONTRIBUTING.md
-#   make recipe    installs below out/, and tries there the recipe for operators and what its pages show
-#   make trials    tries that program with sessions of a shell, jobs of chance, little memory and stack, and streams that fail
-#   make monitor   as root: that program, the recipe, --to and --as-ceph beside a monitor of Ceph 18, which is fetched below out/
-#   make clean     removes what the checks kept, what Python has compiled, and out/
+#   make            proves the program and all crates that it depends on, and builds the program
+#   make try        runs the job JOB without proving anything, and keeps no file. A job is the text of a map, followed
+#                   by commands. By default, JOB is an example, and `make try` prints what its commands change in the
+#                   map. `make try JOB=my.job ARGS=--in-turn` runs another job, with other options. In ARGS, `map` is
+#                   the name of a file with the map of JOB
+#   make test       runs the tests of all crates, the stored runs and the tests of the whole program, without proving
+#                   anything. It leaves out limits.py, refused_memory.py, wrong.py and wrong_test.py of tests/
+#   make check      runs the gate, that is, the checks that every change must pass. The gate proves everything for
+#                   which no proof is kept on this machine, runs the tests, and tries the wrong bodies (deliberate
+#                   errors that the prover must refuse)
+#   make install    installs the program, the recipe (crushedit-recipe), their manual pages and the completions for
+#                   shells below PREFIX, which is /usr/local by default
+#   make uninstall  removes the files that `make install` has installed
+#   make dist       writes an archive of the program, the recipe and the pages to out/, and also a package for Debian
+#                   if dpkg-deb is installed
+#   make manual     writes the manual page man/crushedit.1 from the help. `make check` compares the page with the help
+#   make tables     writes the processor seconds that the last `make check` took for each crate into CONTRIBUTING.md
+#   make recipe     installs the program and the recipe below out/tried, and then tests the installed recipe, and the
+#                   examples of the pages with the installed program
+#   make trials     tests the program with sessions of a shell, random jobs, little memory and stack, and streams that
+#                   fail. This takes some minutes
+#   make monitor    compares the program, the recipe, --to and --as-ceph with a monitor of Ceph 18 (the server process
+#                   that keeps the map of a cluster). This needs root, and downloads Ceph to out/monitor
+#   make clean      removes out/, the folder out/ of each crate, and each folder __pycache__
 
 PREFIX = /usr/local
 DESTDIR =
 JOB = examples/maps/class-3.job
 ARGS = --in-turn --since map
 PROGRAM = crates/crushedit/out/crushedit
-# What the program is proved and built of.
+# The files from which the program is proved and built.
 SOURCES = crates.txt $(shell find crates \( -name out -o -name '*_tests' \) -prune -o \( -name '*.rt' -o -name '*.antt' \) -print)
 
 .PHONY: all try test check install uninstall dist manual tables recipe trials monitor clean

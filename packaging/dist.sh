@@ -1,13 +1,16 @@
 #!/bin/sh
-# Packs the program for machines without the toolchain: as an archive and, if dpkg-deb is there, as a package of Debian.
+# Packs the program for machines without the toolchain. Writes an archive, and also a package for Debian if dpkg-deb is
+# installed. Prints the paths of both.
 #
 #     packaging/dist.sh crates/crushedit/out/crushedit [FOLDER]
 #
-# FOLDER is out/ if it isn't given. The archive has the program, the recipe, their manual pages, the completions for shells,
-# README and the pages for operators, the recipe's test with its map, the licence, the line of `crushedit --version`, and
-# the checksums of all these files. The script works in a folder of its own inside FOLDER, and removes no other one.
+# The archive and the package are written into FOLDER, which is out/ by default. The archive has the program, the
+# recipe (crushedit-recipe), their manual pages, the completions for shells, all pages with the licence, two example
+# maps, the test of the recipe, the line that `crushedit --version` prints, and the checksums of all these files. While
+# the script works, it uses a new folder inside FOLDER. It removes this folder at the end, and no other folder.
 set -eu
-# A folder or a file that only its owner can read would stop dpkg-deb, and an exported CDPATH makes `cd` print.
+# Without this umask, a user's own umask could make a folder that only its owner can read, which dpkg-deb refuses. If
+# CDPATH is exported, `cd` prints a folder, so that the paths below would be wrong.
 umask 022
 unset CDPATH
 
@@ -23,12 +26,12 @@ work=$(mktemp -d "$out/packing.XXXXXX")
 trap 'rm -rf "$work"' EXIT
 trap 'exit 1' HUP INT TERM
 
-# The pages, what they link, and the recipe's test with its map. They lie below share/doc/crushedit as they lie here, so
-# that each link leads to its file.
+# The licence, the pages, the example maps, and the test of the recipe. Below share/doc/crushedit, these files have the
+# same paths as in this repository, so that the links between them lead to the right files.
 documents=$(cd "$top" && ls LICENSE ./*.md bench/*.md crates/*.md docs/*.md docs/*/*.md examples/*.md tests/*.md tools/*.md \
     examples/*.txt tests/recipe_test.* tests/stand_ins.py)
 
-# lay ROOT: lays the files out as below /usr.
+# lay ROOT: copies all files into the folder ROOT, with the paths that they have below /usr after an installation.
 lay() {
     mkdir -p "$1/bin" "$1/share/man/man1" "$1/share/doc/crushedit"
     mkdir -p "$1/share/bash-completion/completions" "$1/share/zsh/site-functions" "$1/share/fish/vendor_completions.d"
