@@ -10,7 +10,7 @@
 # the script works, it uses a new folder inside FOLDER. It removes this folder at the end, and no other folder.
 set -eu
 # Without this umask, a user's own umask could make a folder that only its owner can read, which dpkg-deb refuses. If
-# CDPATH is exported, `cd` prints a folder, so that the paths below would be wrong.
+# CDPATH is exported, `cd` prints a folder, and the paths below would be wrong.
 umask 022
 unset CDPATH
 

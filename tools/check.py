@@ -9,8 +9,8 @@ script prints one line for each fault that it finds. The status is 1 if it has f
 - Names. If a page of docs/ or CONTRIBUTING.md has a name in backticks, the crates must declare this name, for example
   as a function, a type, a definition or a clause of a contract. The name may also be the name of a crate, of a file of
   a crate or of a job of examples/, or a word in a code block of the same page. The crates of tests don't count, except
-  on a line that names a crate of tests. The pages of WORDS_OF_TEXTS are left out, because they also have words of jobs
-  and words of Ceph in backticks.
+  on a line that names a crate of tests. The pages of WORDS_OF_TEXTS (in sources.py) are left out, because they also
+  have words of jobs and words of Ceph in backticks.
 - Files. If one of these pages has a file or a folder in backticks, the repository must have it.
 - Links. Each link must lead to a file, and to a heading of this file if the link names one.
 - Additions. CONTRIBUTING.md lists the files that each kind of addition touches. If a file in src/, specs/ or proofs/

@@ -29,9 +29,13 @@ import time
 
 CRATES = pathlib.Path(__file__).resolve().parent.parent / "crates.txt"
 PAGE = pathlib.Path(__file__).resolve().parent.parent / "CONTRIBUTING.md"
-BEGIN, END = "<!-- made by tools/costs.py -->\n", "<!-- end -->\n"
+# The comments of CONTRIBUTING.md between which the table is.
+BEGIN, END ="<!-- made by tools/costs.py -->\n", "<!-- end -->\n"
+# The columns of the table, and the second words of the lines of LOG.
 WHATS = ("proof", "tests", "edits")
+# The name of the prover's process.
 PROVER = "rattle"
+# The unit of the processor times in /proc: this many ticks are a second.
 TICKS = os.sysconf("SC_CLK_TCK")
 
 

@@ -2,9 +2,10 @@
 
 These are the statements:
 
-- RULES.md must have a row for each variant of the enums of ROWS, and for each limit. The row of a limit must have the
-  value of the limit. The sentences of refusals and of faults of jobs must be those of the definitions in SENTENCES.
-  The sentences of runs and the sentences that name an item must also be those of their definitions.
+- RULES.md must have a row for each variant of the enums of ROWS (in sources.py), and for each limit. The row of a
+  limit must have the value of the limit. The sentences of refusals and of faults of jobs must be those of the
+  definitions in SENTENCES. The sentences of runs and the sentences that name an item must also be those of their
+  definitions.
 - MODEL.md must say how many worked examples of edits there are.
 - tests/README.md must say for each script of tests/ whether the gate (`make check`) runs it.
 - edits.md must list for each edit the refusals that the definition of the edit can give.
@@ -15,7 +16,8 @@ These are the statements:
 - Errors and values must have the traits that CALLING.md says they have.
 - FORMATS.md must have a heading for each option of the command line, and README.md must have a row for each exit
   status.
-- The crates must declare each name of a type, a refusal or a fault that the pages of WORDS_OF_TEXTS have in backticks.
+- The crates must declare each name of a type, a refusal or a fault that the pages of WORDS_OF_TEXTS (in sources.py)
+  have in backticks.
 
 Each function whose name ends in `_faults` yields a line for each statement that is wrong.
 """
