@@ -30,7 +30,7 @@ import time
 CRATES = pathlib.Path(__file__).resolve().parent.parent / "crates.txt"
 PAGE = pathlib.Path(__file__).resolve().parent.parent / "CONTRIBUTING.md"
 # The comments of CONTRIBUTING.md between which the table is.
-BEGIN, END ="<!-- made by tools/costs.py -->\n", "<!-- end -->\n"
+BEGIN, END = "<!-- made by tools/costs.py -->\n", "<!-- end -->\n"
 # The columns of the table, and the second words of the lines of LOG.
 WHATS = ("proof", "tests", "edits")
 # The name of the prover's process.
