@@ -181,12 +181,12 @@ def moves_at_the_foot(size, first_id=1, beside=()):
 
 
 def moves_at_the_foot_of_far_ids(size):
-    """The same with far ids, so that each way up from a host begins in the hash table."""
+    """The batch of `moves_at_the_foot` with far ids, so that each way up from a host begins in the hash table."""
     return moves_at_the_foot(size, FAR)
 
 
 def moves_at_the_foot_of_near_and_far_ids(size):
-    """The same with far ids, after an empty host with the id -1."""
+    """The batch of `moves_at_the_foot` with far ids, on a map that also has an empty host with the id -1."""
     return moves_at_the_foot(size, FAR, [1])
 
 
@@ -197,7 +197,7 @@ def weights_at_the_foot(size, first_id=1):
 
 
 def weights_at_the_foot_of_far_ids(size):
-    """The same with far ids."""
+    """The batch of `weights_at_the_foot` with far ids."""
     return weights_at_the_foot(size, FAR)
 
 

@@ -16,8 +16,9 @@ other programs are these:
 For each job, the script prints a line with the following columns:
 
 - The number of devices and the number of calls.
-- The elapsed seconds of each program, from the start to the end of its process. Each time is the shortest time of all
-  repeats. The programs run alternately, so that other work on the machine slows all of them in the same way.
+- The elapsed seconds of each program. For crushtool, this is the time of both its runs together. Each time is the
+  shortest time of all repeats. The programs run alternately, so that other work on the machine slows all of them in
+  the same way.
 - For each other program, how many times as long as this program crushedit takes.
 - The most memory that each program had at one time, in MiB. The script doesn't measure the memory of `wc`. The memory
   is measured in one more run, with GNU `time`.

@@ -353,7 +353,7 @@ def closed(library):
             types.add((crate, name))
             path, found = library.types[crate, name]
             if found["kind"] == "type":
-                continue  # a caller only passes such a value on
+                continue  # a caller only passes such a value on, so the page shows no parts of it
             waiting += library.named(crate, path, re.sub(r"(?m)^ *///.*$", "", library.body_of(crate, name)))
             for paths, head, methods in library.methods(crate, name):
                 for path in paths:
