@@ -34,8 +34,8 @@ impl Aspects {
         }
     }
 
-    /// Returns the set that has only the aspect `presence`. This is the set of aspects of an item
-    /// that a map doesn't have.
+    /// Returns the set that has only the aspect `presence`. If a map doesn't have an item, then the
+    /// item has only this aspect there: the map says only that the item doesn't exist.
     pub(crate) fn presence() -> Aspects
         ensures { result ≡ only_presence }
     {

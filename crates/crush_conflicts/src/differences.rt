@@ -16,9 +16,9 @@ use crush_units::{BucketId, ItemId, Weight};
 use std::alloc::Allocator;
 
 /// Returns the aspects of `here` that `there` doesn't have, or for which `there` has another value.
-/// If a map doesn't have the item (`None`), the item has only the aspect `presence` in this map.
-/// `known` has the items of the map before the run. `same_bucket` uses them to find out whether the
-/// two items are in the same bucket.
+/// If a map doesn't have the item (`None`), then the item has only the aspect `presence` there: the
+/// map says only that the item doesn't exist. `known` has the items of the map before the run.
+/// `same_bucket` uses them to find out whether the two items are in the same bucket.
 pub(crate) fn differences<A: Allocator>(
     known: &KnownItems<'_, A>,
     here: &Option<Seen<'_>>,
@@ -39,8 +39,8 @@ pub(crate) fn differences<A: Allocator>(
     }
 }
 
-/// Returns the aspects that an item has. An item that a map doesn't have (`None`) has only the
-/// aspect `presence`.
+/// Returns the aspects that an item has. If a map doesn't have the item (`None`), then the item has
+/// only the aspect `presence`.
 pub(crate) fn aspects_of(item: &Option<Seen<'_>>) -> Aspects
     ensures { result ≡ aspects_of (option_map seen_data item.now) }
 {

@@ -1,4 +1,5 @@
-//! The names of the new items. An item is new if the map before the run doesn't have the item's id.
+//! The names of the items that the operators' scripts add. The map before the run doesn't have the
+//! ids of these new items.
 
 ghost use Rattle.std.specs.Prelude.{◌≡◌, ◌++◌, IfOk, List, OnOk, flat_map, map as each};
 ghost use Rattle.crush_model.specs.Stands.{Stands};

@@ -249,8 +249,8 @@ impl<N: Desk, O: KeptOpening> Editor<N, O> {
     /// room for the slip. After a reply the [`Seat`] has one more slip, and it has seen the history
     /// up to and including this call.
     ///
-    /// A guarded batch ([`Call::Guarded`]) contains a number of changes. Suppose that this is the
-    /// number of changes in the history that the seat had seen before the call, and that the reply
+    /// A guarded batch ([`Call::Guarded`]) has a number, `seen`. Suppose that `seen` is how many
+    /// changes there are in the history that the seat had seen before the call, and that the reply
     /// isn't `Stale`. Then the table of the map right before the batch was the table after that
     /// history. (The *table* is the flat list of the map's devices and buckets with which contracts
     /// describe the map.)

@@ -78,9 +78,9 @@ impl<N: Desk> Model for Seat<N> {
 }
 
 /// What the lock protects: the book, which is the map with its history, and two values that exist
-/// only for proofs. `count` is the number of calls in the book's history. Each [`Seat`] has a share
-/// of this number, which is the number of answered calls of the seat's operator. `spare` is the
-/// share that belongs to no seat, and is always 0.
+/// only for proofs. `count` is the number of calls in the book's history. This number is divided
+/// into shares. The share of each [`Seat`] is the number of answered calls of the seat's operator.
+/// `spare` is the share that belongs to no seat, and is always 0.
 #[derive(Drop)]
 pub(crate) struct Locked<N: Desk, O: KeptOpening> {
     pub(crate) book: Book<Global, O>,

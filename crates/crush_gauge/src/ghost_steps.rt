@@ -58,8 +58,9 @@ impl<O, E, M: ChoosesGhost<O>> Play<(), View<O, E>> for Begin<M> {
     ghost then = { begun M.chosen };
 }
 
-/// A store with the book's seat, which is the only seat that publishes. The chosen entries are
-/// appended to the history that this seat has seen.
+/// The step in which the book's seat stores a new value in a gauge's word. The book's seat is the
+/// only seat that publishes. The chosen entries are appended to the history that this seat has
+/// seen.
 pub(crate) struct Publish<M> {
     of: PhantomData<M>,
 }

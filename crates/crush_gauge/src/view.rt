@@ -4,10 +4,10 @@
 
 use std::collections::LinkedList;
 
-/// The law of a gauge, which is one word of memory with two numbers about a history. The law says
-/// which histories of entries `E` are legal after an opening `O`. (The opening is what the history
-/// starts from, for example a map.) The law also says what the two numbers are for each history:
-/// how many of its entries are changes, and the weight after the history.
+/// Says what the two numbers in a gauge's word mean. Both numbers are about a history of entries
+/// `E` after an opening `O`. (The opening is what the history starts from, for example a map.) A
+/// law says which histories are legal after an opening. It also says what the two numbers are for
+/// each history: how many of its entries are changes, and the weight after the history.
 pub trait Law<O, E> {
     ghost use Rattle.std.specs.Prelude.{ℕ, List};
 

@@ -372,8 +372,9 @@ fn screened_map<H: AllocGlobal + RandomSource>(
     }
 }
 
-/// Reads the file of a verb's map. If the function succeeds, it hasn't parsed the bytes of the
-/// file, because the run of the verb parses them.
+/// Reads the file of a verb's map. The function parses the bytes of the file only to find out why a
+/// verb can't use them. So if the function succeeds, the bytes may still have a fault. The run of
+/// the verb finds this fault when it parses the bytes.
 ///
 /// Returns the bytes of the file. There are at most 16,777,216 bytes, and no line of them begins
 /// with `%`, because such a line would begin a script. If `maps` requires a complete map, their

@@ -75,8 +75,8 @@ fn target_name<'a, A: Allocator, B: Allocator>(
     goal.there.name_of(ItemId::Bucket(pair.target))
 }
 
-/// Returns the bucket that has this bucket's new name in the map from which the round starts, or
-/// `None` if no bucket has the name.
+/// Takes the new name that this bucket will get. Returns the bucket that has this name in the map
+/// from which the round starts, or `None` if no bucket has the name there.
 fn owner<A: Allocator, B: Allocator>(
     goal: &PlanGoal<'_, A, B>,
     way: &Way<'_, A>,

@@ -1,5 +1,5 @@
-//! Finds the bucket or rule of a map's text that is open at a place, and the place where a bucket
-//! is defined.
+//! Finds in a map's text the bucket or rule that is open at a given place, which means that the
+//! place is between its braces. Also finds the place where the bucket with a given name is defined.
 //!
 //! A place is the index of a byte of the text, from 0. A bucket or a rule is *open* at a place if
 //! its `{` comes before the place, and its `}` doesn't. Both searches end early in two cases, and

@@ -50,9 +50,9 @@ fn misfit(word: usize, due: Due) -> LineFault
     LineFault::Word(Misfit { word, due })
 }
 
-/// Appends the pair that the word spells to the location `at`. `first` is the index in the line of
-/// the location's first pair. Fails if the word isn't a pair `TYPE=NAME`, if the location already
-/// has 16 pairs, or if memory runs out.
+/// Appends the pair that the word spells to the location `at`. `first` is the index of the
+/// location's first pair among the words of the line, from 0. Fails if the word isn't a pair
+/// `TYPE=NAME`, if the location already has 16 pairs, or if memory runs out.
 #[tactic(auto, unfolding(crate::specs::Command::with_pair))]
 fn with_pair(first: usize, at: Location, word: &[u8]) -> Result<Location, LineFault>
     requires { first ≤ 3 }
@@ -112,8 +112,8 @@ impl LineWords<'_> {
         }
     }
 
-    /// Reads all words that are left in the line, each as a pair `TYPE=NAME`. `first` is the index
-    /// in the line of the first of these words.
+    /// Reads all words that are left in the line, each as a pair `TYPE=NAME`. `first` is how many
+    /// words of the line come before these words.
     #[tactic(auto, unfolding(crate::specs::Command::location_at, crate::specs::Command::with_pairs))]
     fn location(&mut self, alloc: Global, first: usize) -> Result<Location, LineFault>
         requires { first ≤ 3 }

@@ -23,9 +23,10 @@ const MOST_NAMES: u32 = 100;
 /// N is the least number from 0 to 99 for which there is no such file. If all 100 files exist, the
 /// call fails with the error `AlreadyExists`.
 ///
-/// If the call fails, a regular file is as it was before the call, and the call tries to remove the
-/// new file. A device or a pipe may already have received a part of the bytes. If the program is
-/// killed, the new file may remain in the folder.
+/// If the call fails, and `name` leads to a regular file, then this file is as it was before the
+/// call. If the call has created the new file, it then tries to remove it. A device or a pipe may
+/// already have received a part of the bytes. If the program is killed, the new file may remain in
+/// the folder.
 pub(crate) fn replace(rt: &HostRuntime, name: &str, bytes: &[u8]) -> io::Result<()> {
     match fs::metadata(rt, name) {
         Ok(old) => replace_found(rt, name, old, bytes),
