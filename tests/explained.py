@@ -1,9 +1,10 @@
 """Computes the lines that `--explain` prints: a part of the plain model.
 
 The plain model is a second implementation of crushedit, in Python, with which tests compare the program. With
-`--explain`, crushedit prints more lines on standard error after the first line. These lines say where an error is, and
-what is wrong. This module computes these lines as the page docs/user/FORMATS.md describes them. It reads the sentences
-from the tables of the page docs/user/RULES.md. It also computes the lines that `--no-make` prints (`created_text`).
+`--explain`, crushedit prints more lines on standard error. Most of these lines say where an error is, and what is
+wrong. This module computes these lines as the page docs/user/FORMATS.md describes them. Their sentences are those of
+the page docs/user/RULES.md. The module reads some of the sentences from the tables of this page, and has the other
+sentences itself. It also computes the lines that `--no-make` prints (`created_text`).
 
 - A *fault* is the reason why the text of a map or a job is invalid. A *refusal* is the reason why a map refuses a
   command.
@@ -21,10 +22,11 @@ import re
 from model import is_change, make, number_of, route, text_of, units_of
 
 RULES = pathlib.Path(__file__).resolve().parent.parent / "docs/user/RULES.md"
-# A message shows at most 72 bytes of a line, and begins at most 40 bytes before the place of the error.
+# A message shows at most 72 bytes of a line. If the error has a place in the line, these bytes begin at most 40 bytes
+# before this place.
 MOST_SHOWN, MOST_BEFORE = 72, 40
-# crushedit searches for similar names only for the first 256 refused calls, and only for the first 256 created
-# buckets.
+# crushedit searches for similar names only for the first 256 refused calls, and only for the first 256 created buckets
+# that `created_text` counts.
 MOST_LOOKS = 256
 
 
@@ -166,8 +168,9 @@ def line_words(line):
 def line_reason(line):
     """Returns the index of the word that makes a script's line invalid, and what `--explain` says about the line.
 
-    The index counts the words of the line from 0. It is None if none of these words is wrong, for example if a word is
-    missing. If a word is wrong or missing, what `--explain` says begins with the form of the line."""
+    The index counts the words of the line from 0. It is None if the first word is wrong. It is also None if no word is
+    wrong, for example if a word is missing. If a word after the first word is wrong or missing, what `--explain` says
+    begins with the form of the line."""
     first, *rest = line_words(line)
     if first not in FORMS:
         return None, "a line that begins with % must be `%operator NAME`"
@@ -209,8 +212,8 @@ def no_command(line):
 def bucket_wanted(words):
     """Returns what the grammar allows after these words of a bucket.
 
-    The first of these words is the word after the bucket's name. If the grammar requires a number, the result is a
-    pair of a phrase and the range of the number. Otherwise the result is only a phrase."""
+    The first of these words is the word after the bucket's name. If the grammar requires a whole number, the result is
+    a pair of a phrase and the range of the number. Otherwise, also for a weight, the result is only a phrase."""
     head = ["`{`", "`id`", NEGATIVE_ID]
     if len(words) < len(head):
         return head[len(words)]
@@ -285,9 +288,10 @@ def rule_wanted(words):
 def wanted(found):
     """Returns what the grammar allows after these words of a map's text, and the bucket or rule that isn't closed.
 
-    `found` is the list of the words, each with its place before it. All these words fit the grammar. What the grammar
-    allows has the form that `bucket_wanted` returns. The bucket or rule is a pair of its place and its first two
-    words. It is None if every bucket and rule is closed, or if the last word is the first word of a bucket or rule."""
+    `found` is the list of the words, each as a pair of its place and the word. All these words fit the grammar. What
+    the grammar allows has the form that `bucket_wanted` returns. The bucket or rule is returned as a pair of its place
+    and its first two words. This pair is None if every bucket and rule is closed, or if the last word is the first
+    word of a bucket or rule."""
     late = False
     while found:
         texts = [word for _, word in found]
@@ -451,8 +455,9 @@ def edit_lines(text):
 def place(text, at, files):
     """Returns three lines that show a place in the text.
 
-    The first of these lines has the numbers of the line and the column. The second has the text's line at this place,
-    and the third has a `^` below the place."""
+    The first of these lines has the numbers of the line and the column, after the name of the file if the file has
+    one. The second line shows the text's line at this place, or only a part if that line is long. The third line has a
+    `^` below the place."""
     before = text[:at]
     behind = len(before) - (before.rfind("\n") + 1)
     kept = min(behind, MOST_BEFORE)
@@ -608,9 +613,9 @@ def taking_rule(map, name):
 def sentence_of(words, kind, is_itself, count, near):
     """Returns the sentence about a refusal, before words in capital letters, such as NAME, are replaced.
 
-    `words` are the words of the refused command, and `kind` is the name of the refusal. `is_itself` says whether the
-    command would move a bucket into itself. `count` is the number of items in the bucket if the refusal is `NotEmpty`.
-    `near` is the similar name that `near_name` has found, if there is one."""
+    `words` are the words of the refused command, and `kind` is the name of the refusal. If the refusal is `Loop`,
+    `is_itself` says whether the command would move a bucket into itself. If the refusal is `NotEmpty`, `count` is the
+    number of items in the bucket. `near` is the similar name that `near_name` has found, if there is one."""
     if kind == "NotADevice" and words[0].endswith("device-class"):
         return "NAME is a bucket: only devices have a class"
     if kind == "WrongType" and words[0] == "add-bucket":
@@ -629,7 +634,8 @@ def sentence_of(words, kind, is_itself, count, near):
 def seen_in(map, words, name, kind):
     """Returns what replaces the words in capital letters of a sentence about the name, except for NAME and NEAR.
 
-    The result is a dict, such as {"BUCKET": "h1"}. What it has is taken from the map that refused the command."""
+    The result is a dict, such as {"BUCKET": "h1"}. Its values come from the map that refused the command, or from the
+    command."""
     item = map.items.get(name)
     if kind == "AlreadyPlaced":
         return {"BUCKET": map.parent(name)}
@@ -727,9 +733,10 @@ def created_hints(map, edits):
 def created_text(map, made, explain):
     """Returns the history line of each call that created more buckets than it has commands `add-bucket`.
 
-    If `explain` is true, the hints for the call's created buckets follow after its history line. The hints end before
-    the call with which the number of these buckets exceeds MOST_LOOKS. `made` is the list of all calls of a run, each
-    with its history line. `map` is the map before the first call."""
+    If `explain` is true, the hints for the buckets that the locations of the call created follow after its history
+    line. The function counts all buckets that the calls with such lines created. The hints end before the call with
+    which this count exceeds MOST_LOOKS. `made` is the list of all calls of a run, each with its history line. `map` is
+    the map before the first call."""
     text, looks = "", MOST_LOOKS
     for call, line in made:
         if makes_more(call, line):

@@ -30,8 +30,9 @@ class Folders(unittest.TestCase):
                               stderr=subprocess.STDOUT, env={**os.environ, **environment})
 
     def pack(self, shell="", **environment):
-        """Packs a stand-in for the program, whose version is 0.0.9, and returns the mode of each file of the
-        archive."""
+        """Packs a stand-in for the program, and returns the mode of each file and folder of the archive.
+
+        The stand-in prints the version 0.0.9."""
         program = self.here / "program"
         program.write_text("#!/bin/sh\necho 'crushedit 0.0.9 (a trial)'\n")
         program.chmod(0o755)

@@ -23,8 +23,9 @@ crushtool prints in another way, or in addition. The test accepts only the follo
   must be exactly the class ids in the map's text, and their names must be `NAME~CLASS`.
 - A number in place of the name of a rule's step, for the steps in NUMBERED.
 
-If all maps are equal, the test prints how many maps and how many objects of each list it has compared. The test stops
-at the first difference, or if crushtool is missing, fails or crashes. The status is then 1.
+The test stops at the first difference that it doesn't accept. It also stops if crushtool is missing, or if crushtool
+or crushedit fails or crashes. If the test stops, the status is 1. Otherwise the test prints at the end how many maps
+and how many objects of each list it has compared.
 """
 
 import collections

@@ -7,8 +7,9 @@ The script starts crushedit with the limits FROM, FROM + STEP, and so on, up to 
 and `--stack` is for the stack. The numbers are in kB (1,024 bytes), as `ulimit -v` and `ulimit -s` take them. A run
 can end with status 0, with another status and a line on standard error, or by a signal. It can also end in the loader
 (status 127), before the program begins. For each job, the script prints one line for each range of limits in which the
-runs end in the same way. If such a run doesn't end with status 0, the line also says how many bytes the run has
-written. Without `--fits`, the status of the script is 0, however the runs end. The runs have three parts:
+runs end in the same way. If such a run has written something, but doesn't end with status 0, the line also says how
+many bytes the run has written. Without `--fits`, the status of the script is 0, however the runs end. The runs have
+three parts:
 
 1. Jobs with little address space, and the same jobs with little stack. The first job edits a map of three devices. The
    second job edits the device in the innermost of 4,096 nested buckets. The third job has two operators. Each job runs
@@ -48,7 +49,8 @@ EDITS = [
     "begin\nmove osd.0 rack=right\nadd osd.2 1.0 rack=left\nrm left\ncommit",
 ]
 
-# Options for outputs that visit all nested buckets. Some of them compare the map with the map in the file OTHER.
+# Options for outputs for which crushedit visits all nested buckets. With `--since`, crushedit compares the map with
+# the map in the file OTHER.
 OTHER = "other"
 FORMS = [
     ["--tree"], ["--tree", "--under", "b1"], ["--tree", "--down-to", "rack"], ["--since", OTHER], ["--tree", "--since", OTHER],

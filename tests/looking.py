@@ -1,9 +1,9 @@
 """Computes what a run prints, and how the run ends: a part of the plain model.
 
 The plain model is a second implementation of crushedit, in Python, with which tests compare the program. This module
-computes the outputs that a run can print in place of the map's text. These are the tree (`--tree`), what has changed
-since another map (`--since`), and Ceph's own commands (`--as-ceph`). It also computes the status and standard error of
-a run, for example with `--strict` or `--no-make`.
+computes three of the outputs that a run can print in place of the map's text. These are the tree (`--tree`), what has
+changed since another map (`--since`), and Ceph's own commands (`--as-ceph`). The module also computes the status and
+standard error of a run with a valid job, for example with `--strict` or `--no-make`.
 
 - A *call* is a batch, or a command that is in no batch. Its *history line* shows the call and the reply to the call.
 - The parameter `made` of many functions is the list of the calls of a run, in the order in which they were made. For
@@ -105,7 +105,7 @@ def emptied(old, new):
 
 
 def changed_rules(old, new):
-    """Returns the lines about the rules that differ.
+    """Returns the lines about the rules that differ. If only the order of the rules differs, there is one line.
 
     `old` and `new` are the rules of the two maps. Each rule is a pair: its name, and everything else that the map says
     about the rule."""
@@ -213,22 +213,22 @@ def is_refusal(line):
 
 
 def reasons(words, read, made, adjusted, text, files):
-    """Returns what a run prints on standard error after the first line, if its command line has these words.
+    """Returns what a run prints on standard error about refused calls and the map's text, except for `first_line`.
 
-    With `--explain`, it is the refused calls with their reasons, and the lines about the map's text. With only
-    `--strict`, it is the history lines of the refused calls. `read` is the map before the first call of `made`.
-    `adjusted` has the weights of the map's text that crushedit has replaced. `text` is the text of the job, and
-    `files` are the files of the job, as `own_line` in explained.py takes them."""
+    `words` are the words of the command line. With `--explain`, the result has the refused calls with their reasons,
+    and the lines about the map's text. With only `--strict`, it has the history lines of the refused calls. `read` is
+    the map before the first call of `made`. `adjusted` has the weights of the map's text that crushedit has replaced.
+    `text` is the text of the job, and `files` are the files of the job, as `own_line` in explained.py takes them."""
     if "--explain" in words:
         return refused_text(read, made, text, files) + written_text(adjusted, text)
     return "".join(line for _, line in made if is_refusal(line)) if "--strict" in words else ""
 
 
 def first_line(status, refused, adjusted):
-    """Returns the first line on standard error of a run with the status 0 or 5.
+    """Returns the first line on standard error of a run with status 0, or with status 5 because of refused calls.
 
-    A run with the status 0 prints such a line only if it has replaced weights. `refused` has the refused calls, and
-    `adjusted` has the replaced weights."""
+    A run with status 0 prints such a line only if it has replaced weights. Otherwise the result is "". `refused` has
+    the refused calls, and `adjusted` has the replaced weights."""
     if status == 5:
         return f"crushedit: refused {len(refused)}\n"
     return f"crushedit: adjusted {len(adjusted)}\n" if adjusted else ""
@@ -237,7 +237,7 @@ def first_line(status, refused, adjusted):
 def created_notes(words, read, made):
     """Returns what `--no-make` prints on standard error about calls that created more buckets than they may.
 
-    These are the calls that created more buckets than they have commands `add-bucket`. Without `--no-make`, and if
+    These are the calls that created more buckets than they have commands `add-bucket`. Without `--no-make`, or if
     there is no such call, the result is "". `read` is the map before the first call of `made`."""
     count = sum(makes_more(call, line) for call, line in made)
     if "--no-make" not in words or count == 0:
@@ -263,6 +263,6 @@ def ending(words, since, read, adjusted, scripts, text, files):
 
 
 def history_of(printed, count):
-    """Splits the output of a run with so many calls: returns what is before the history, and the history lines."""
+    """Splits the output of a run with `count` calls: returns what is before the history, and the history lines."""
     lines = printed.splitlines(keepends=True)
     return "".join(lines[: len(lines) - count]), [re.sub(r"\n$", "", line) for line in lines[len(lines) - count :]]

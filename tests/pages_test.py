@@ -23,7 +23,7 @@ Then the test checks these statements:
 - bash completes command lines of crushedit as it should (completed.py).
 - In the archive of packaging/dist.sh, each link of a page leads to a file of the archive. There are exceptions: links
   to web pages, and links to the sources of the crates.
-- README's script shows what its scripts change, and then makes the new map with the same scripts.
+- README's shell script first shows what changes (`--dry-run`), and then makes the new map from the same files.
 - Each page links the map of its examples.
 - `make try` prints what has changed, and not the whole map.
 
@@ -46,9 +46,9 @@ FIRST_MAP, SMALL_MAP = "examples/map.txt", "examples/example.txt"
 # The pages, and the map that the examples of each page use.
 PAGES = {"README.md": FIRST_MAP, "docs/user/OPERATING.md": FIRST_MAP, "docs/user/FORMATS.md": SMALL_MAP}
 MAPS = TOP / "examples/maps"
-# Commands, each with the status with which it must end. README's table must have the line that the command prints on
-# standard error. A run ends with status 4 only if the system refuses memory or a thread. tests/refused_memory.py tests
-# such runs.
+# Commands, each with the status with which it must end. README's table must have the first line that the command
+# prints on standard error. A run ends with status 4 only if the system refuses memory or a thread.
+# tests/refused_memory.py tests such runs.
 ENDS = [
     (0, "crushedit old.txt"),
     (1, "(cat map.txt; echo '%operator a'; echo fly osd.1) | crushedit"),
@@ -154,8 +154,9 @@ def status_faults(folder, environment):
 def order_faults(folder, environment):
     """Yields each map of `crushtool` that crushedit prints with another difference than the order of its buckets.
 
-    A map doesn't count if crushedit prints something on standard error for it. It is also a fault if crushedit prints
-    none of the maps with another order of the buckets."""
+    The function compares only what follows after the line `# buckets`. A map doesn't count if crushedit prints
+    something on standard error for it. It is also a fault if crushedit prints none of the maps with another order of
+    the buckets."""
     here, orders = example_folder(folder, "order"), 0
     for job in sorted(MAPS.glob("*.job")):
         text = job.read_text().partition("%")[0]

@@ -313,7 +313,7 @@ def any_name(dice, map):
 def any_part(dice, map):
     """Returns a random name for `--under` and a random type for `--down-to`.
 
-    One of them may be None. The map may not have this name or this type."""
+    One of them may be None. The map may lack the name or the type."""
     own = [map.types[map.items[name]["kind"]] for name in map.items if map.items[name]["kids"]]
     kind = dice.choice([None, None, *KINDS, *own, *own, *own])
     under = dice.choice([any_name(dice, map)] * 5 + NAMES[:1])

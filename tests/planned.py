@@ -26,7 +26,7 @@ def place(map, name):
 
 
 def parts(map, wanted, name):
-    """Yields what differs between the two maps for an item that both maps have."""
+    """Yields the differences that a plan reports for an item that both maps have."""
     one, other = map.items[name], wanted.items[name]
     if type_name(map, name) != type_name(wanted, name) and not map.is_device(name):
         yield f"type {type_name(map, name)}, wanted {type_name(wanted, name)}"

@@ -25,10 +25,10 @@ pair, the program gets the option `--by-name`. These are the checks:
   plan.
 - With `--strict`, the run must end with status 5 if a difference remains.
 
-The test prints each wrong plan with its two maps. At the end, it prints the numbers of plans, commands and wrong
-plans. The plans from a first map to the same map after a script are also counted separately. The test prints how many
-of them leave a difference, and which differences these are. The status is 1 if a plan is wrong, or if more than 4 in
-100 of these plans (rounded up) leave a difference.
+For each wrong plan, the test prints what is wrong, and the two maps. At the end, it prints the number of the other
+plans, the number of their commands, and the number of wrong plans. The plans from a first map to the same map after a
+script are also counted separately. The test prints how many of them leave a difference, and which differences these
+are. The status is 1 if a plan is wrong, or if more than 4 in 100 of these plans (rounded up) leave a difference.
 """
 
 import collections
