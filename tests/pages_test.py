@@ -151,12 +151,17 @@ def status_faults(folder, environment):
         yield f"README.md: nothing is tried that ends with status {status}"
 
 
+def without_order(text):
+    """Returns the part of a map's text before its buckets, and the sorted list of its buckets and rules."""
+    head, _, rest = text.partition("# buckets\n")
+    return head, sorted(re.split(r"(?m)(?<=^}\n)", rest))
+
+
 def order_faults(folder, environment):
     """Yields each map of `crushtool` that crushedit prints with another difference than the order of its buckets.
 
-    The function compares only what follows after the line `# buckets`. A map doesn't count if crushedit prints
-    something on standard error for it. It is also a fault if crushedit prints none of the maps with another order of
-    the buckets."""
+    A map doesn't count if crushedit prints something on standard error for it. It is also a fault if crushedit prints
+    none of the maps with another order of the buckets."""
     here, orders = example_folder(folder, "order"), 0
     for job in sorted(MAPS.glob("*.job")):
         text = job.read_text().partition("%")[0]
@@ -164,9 +169,8 @@ def order_faults(folder, environment):
         ran = subprocess.run(["crushedit", "--no-history", "job.txt"], cwd=here, env=environment, capture_output=True, text=True)
         if ran.stderr or ran.stdout == text:
             continue
-        parts = [re.split(r"(?m)(?<=^}\n)", it[it.index("# buckets\n") + 10 :]) for it in (text, ran.stdout)]
         orders += 1
-        if sorted(parts[0]) != sorted(parts[1]):
+        if without_order(ran.stdout) != without_order(text):
             yield f"README.md: {job.name} is printed otherwise than in another order of its buckets"
     if orders == 0:
         yield "README.md: no map is printed in another order of its buckets"
