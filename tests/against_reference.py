@@ -10,21 +10,25 @@ Without JOBS, the test draws 1,000 jobs. SEED may be any word, and the same seed
 the test draws a random seed. The test prints the seed at the end, or together with the first difference.
 
 The test draws random jobs, jobs of sixteen operators, and the jobs that the crate crush_examples stores. The stored
-jobs are those of examples/, also those that the program refuses. They have tunables, rules and classes. For each job,
-the test also runs two changed copies. In the first copy, a *mutation*, some words, lines or bytes are changed. The
-second copy, a *prefix*, is only the beginning of the job. With each job, the test also runs a random job whose
-scripts are in files of their own. In half of these jobs, a faulty line is inserted. In many of these jobs, the text
-has weights of buckets that aren't the sums of the weights of their items.
+jobs are those of examples/, also those that the program refuses. Many of them have tunables, rules and classes. For
+each job, the test also runs two changed copies. In the first copy, a *mutation*, some words, lines or bytes are
+changed. The second copy, a *prefix*, is only the beginning of the job. Half of the jobs and copies run with random
+options: `--tree`, `--since MAP`, `--as-ceph`, `--strict`, `--explain`, `--script` and `--no-history`.
 
-Half of these jobs and copies run with random options: `--tree`, `--since MAP`, `--as-ceph`, `--strict`, `--explain`,
-`--script` and `--no-history`. The modules `looking.py` and `explained.py` compute what the program must print with
-these options. If the program doesn't have one of the first six options, the test prints this, and runs without the
-option. If the program lacks `--explain` or `--script`, the test runs no jobs whose scripts are in files.
+With each job, the test also runs a *job in files*, that is, a random job whose scripts are in files of their own. In
+half of the jobs in files, a faulty line is inserted. In many of them, the text has weights of buckets that aren't the
+sums of the weights of their items. Each job in files runs with `--script`, and most of them also run with
+`--explain`. Their other options are random.
+
+The modules `looking.py` and `explained.py` compute what the program must print with these options. If the program
+doesn't have one of the first six options, the test prints this, and runs without the option. If the program lacks
+`--explain` or `--script`, the test runs no jobs in files.
 
 The test runs each job in turn (`--in-turn`), in turn with `--no-make`, and at once. *In turn* means that the scripts
 run one after the other. In these runs, all bytes must be those of the model. *At once* means that each script has its
 own thread, so the history may differ from run to run. The model then makes the calls in the order of the history that
-the program has printed (`at_once.py`).
+the program has printed (`at_once.py`). A run at once with `--strict` prints no history if a call is refused. The test
+then checks only the status, that nothing is printed, and that standard error has the right form.
 
 At the end, the test prints how many jobs ended in which way, and how often each refusal occurred. If a run differs
 from the model, the test prints the job and the difference, and ends with status 1.
@@ -59,8 +63,8 @@ PIECES = [
     "0", "00", "1", "-0", "-1", "4294967295", "4294967296", "2147483647", "2147483648", "-2147483648", "-2147483649",
     "65535", "65536", "32767.99998", "32767.99999", "65535.99999", "65536.0", ".5", "5.", "0.0000001", "01234567890",
 ]
-# WRITTEN has words that replace the written weight of a bucket. FAULTY has lines that are errors in a script, and
-# FAULTY_OF_MAPS has lines that are errors in the text of a map.
+# WRITTEN has words that replace the written weight of a bucket. FAULTY has lines that are errors at nearly every place
+# of a script, and FAULTY_OF_MAPS has lines that are errors at nearly every place of a map's text.
 WRITTEN = ["0", "1", "00001.50", "0.333", "2.500000000000000000", "65535.99998", "0.00001"]
 FAULTY = [
     "fly", "\tfly osd.1 # so", "reweight osd.0", "rm", "rm " + "a" * 90 + " b", "%", "%operator", "%operator a b",
@@ -159,8 +163,8 @@ def any_map_text(dice, text):
 
 
 def is_line_of(line, calls):
-    """Returns whether a history line is the line of one of these calls. The call must be refused. Each call is a text
-    that begins with the name of its operator."""
+    """Returns whether the history line of a refused call is the line of one of these calls. Each of these calls is a
+    text that begins with the name of its operator."""
     return line.split(" ", 2)[2].partition(" = refused ")[0] in calls
 
 
@@ -218,7 +222,8 @@ def parted(text):
     """Splits a job into the text before its sections, and a file for each section. Returns this text, and a list with
     the name and the content of each file. There are at most sixteen files, so the last file may have several
     sections. The text and the files together are the same job again. If possible, a file is named after its operator,
-    and then the file doesn't have the line `%operator`."""
+    and then the file doesn't have the line `%operator`. A section is a line that begins with `%`, and the lines up to
+    the next section. If the job begins with a section, it isn't split, and the list is empty."""
     front, *sections = re.split(r"(?m)^(?=%)", text)
     if not front:
         return text, []  # after an empty text, the program would add a line feed
@@ -265,9 +270,9 @@ def with_a_line(dice, text, lines):
 
 
 def any_files(dice):
-    """Returns the text of a job, and a list of scripts in files that follow it. In half of the cases, a line that is
-    an error, such as a `begin` without `commit`, is inserted into the text or into one of the scripts. Some weights
-    of the text are replaced (`with_other_weights`)."""
+    """Returns the text of a job, and a list of scripts in files that follow it. In half of the cases, a faulty line,
+    such as a `begin` without `commit`, is inserted into the text or into one of the scripts. Some weights of the text
+    are replaced (`with_other_weights`)."""
     map = random_map(dice)
     text = dice.choice([map.text()] * 6 + [map.text()[:-1], map.text() + "%operator own\nrm x\n", "", "\n"])
     scripts = [(any_name(dice, number), any_script(dice, map, number)) for number in range(dice.randint(1, 5))]
@@ -331,7 +336,7 @@ def any_case(dice, own, text, there):
 
 def cases(seed, index, there, examples, refused):
     """Yields a job, a mutation of the job, and a prefix of the job. If the program has the options `--script` and
-    `--explain`, also yields a job whose scripts are in files. Most of these last jobs have the option `--explain`."""
+    `--explain`, also yields a job in files. Most of the jobs in files have the option `--explain`."""
     dice, own = Dice(f"{seed} {index}"), Dice(f"{seed} {index} files")
     job = any_job(dice, examples, refused)
     for name, text in (("job", job), ("mutation", mutated(dice, job)), ("prefix", prefix(dice, job))):
@@ -344,8 +349,8 @@ def cases(seed, index, there, examples, refused):
 
 
 def lines_told(case, told):
-    """Yields how many lines on standard error name a place in the file of a script, and how many say that a weight in
-    the text isn't the sum."""
+    """Yields two counts, each with its name: how many lines on standard error name a place in the file of a script,
+    and how many say that a weight in the text isn't the sum."""
     names = "|".join(re.escape(name) for name, _ in case.scripts)
     yield "places in scripts", len(re.findall(rf"(?m)^  (?:{names}) line \d", told)) if names else 0
     yield "weights written", told.count(" was written, the sum is ")

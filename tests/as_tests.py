@@ -12,17 +12,17 @@ maps/ and worked/ there, has a NAME.out, which is the expected output. If someth
 there is also a NAME.err. Each job becomes a file of crates/crush_examples/data. For each run of a job, the file
 `jobs` has a line with the options and the name of the job, and the file `expected` has a part. The program compares
 what the run writes with this part. For each run, the file `stdout` of the crate has one short line. Between two parts
-of `expected` is a NUL byte, so that grep considers `expected` a binary file, and doesn't show lines of it. A part
-also has a summary of the run, which this script counts from the history in NAME.out.
+of `expected` is a NUL byte, so that grep considers `expected` a binary file, and doesn't show lines of it. If a run
+has an output, its part also has a summary of the run, which this script computes from NAME.out and NAME.err.
 
 - A job of several operators runs with --in-turn, because it may have several outputs without --in-turn. Other jobs
-  run without this option.
+  run without this option. There is one exception: the job each_mode runs once for each list of options in MODES.
 - For each job of examples/ and maps/ whose NAME.out isn't empty, there are two more runs. NAME.again.job is the
   output, which the program runs once more: the map must stay the same. NAME.alone.job is the map of the job without
   scripts. The program must print this map unchanged, or print NAME.map if this file exists.
 - For a job of at_once/, there are several possible outputs. NAME.OPERATOR.out is the output if the script of OPERATOR
-  runs first. For each of these outputs, NAME.OPERATOR.job has the section of OPERATOR before the other sections, and
-  runs with --in-turn.
+  runs first. For each of these outputs, NAME.OPERATOR.job has the section of OPERATOR (the line `%operator` and the
+  script) before the other sections, and runs with --in-turn.
 - A job of asked/ runs once for each line of NAME.words, with the options of this line. The output has the history,
   but a run with --no-history must leave out the history. If the runs succeed with another status than 0, NAME.status
   has this status. The files *.txt of this folder are copied too, because some of the options name them.
@@ -66,7 +66,7 @@ def read(path):
 
 
 def lines_before(text, begin):
-    """Returns the lines before the first line that begins with this regular expression."""
+    """Returns the lines before the first line whose beginning matches this regular expression."""
     return re.split(f"(?m)^{begin}", text, maxsplit=1)[0]
 
 
@@ -135,8 +135,8 @@ def runs(job):
 
 def asked(job):
     """Yields the runs of a job of asked/, one for each line of options. All these runs have the same output (but
-    without history if there is --no-history), or all are refused. The last member of a run is its status if there is
-    an output."""
+    without history if there is --no-history), or none of them has an output. The last member of a run is its status
+    if there is an output."""
     text, out, err = read(job), read(job.with_suffix(".out")), read(job.with_suffix(".err"))
     done = int(read(job.with_suffix(".status")) or 0)
     for words in read(job.with_suffix(".words")).splitlines():
@@ -162,9 +162,10 @@ def spelled(text):
 
 def refused(table):
     """Yields the jobs of a table of refused/, each with its standard error. A row that begins with two blanks is the
-    end of a job. The nearest `prefix` above the row, with the lines `lines` after it, is the beginning of the job.
-    The nearest line above that names an error says why the job is refused. If this line also names a place, it is
-    exactly what the program reports. Otherwise the program reports the error at the byte that `^` marks in the row."""
+    end of a job. The nearest line `prefix` above the row, with the lines `lines` that follow this `prefix`, is the
+    beginning of the job. The nearest line above the row that names an error says why the job is refused. If this line
+    also names a place, it is exactly what the program reports. Otherwise the program reports the error at the byte
+    that `^` marks in the row."""
     prefix, fault = "", ""
     for line in read(table).split("\n"):
         word, _, rest = line.partition(" ")
@@ -201,9 +202,10 @@ def each_record():
 
 
 def each_growth():
-    """Yields the jobs of the file `growths`: the jobs of examples/ and worked/ that have an output. Each of them has
-    only one possible output, which has the whole history. The parts of a job are its name, the text of its map, the
-    map as the plain model prints it, the job itself, and the output."""
+    """Yields the jobs of the file `growths`: the jobs of examples/ and worked/ that have an output. The output of each
+    of them has the whole history, and is the only possible output if the scripts run one after the other. The parts
+    of a job are its name, the text of its map, the map as the plain model prints it, the job itself, and the
+    output."""
     for job in [job for folder in (EXAMPLES, EXAMPLES / "worked") for job in sorted(folder.glob("*.job"))]:
         text, out = lines_before(read(job), "%"), read(job.with_suffix(".out"))
         if out:

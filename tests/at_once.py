@@ -23,9 +23,10 @@ count as a switch. The test prints how many jobs agree, and the number of switch
 if a job doesn't agree with the model, or if a run fails. The status is also 1 if the test uses the library, and fewer
 than one in FEWEST lines of all jobs is a switch. The calls have then hardly mixed, so the test has tested too little.
 
-With --model, the test tests itself, without the program. The model makes the calls of each job in a random order, and
-the test must accept the output of the model. The test must reject copies of this output in which a reply, a call or
-the map is changed, or the last line is missing.
+With --model, the test tests itself, without the program. The model makes the calls of each job. It mixes the calls of
+the operators in a random order, but the calls of each operator keep their order. The test must accept the output of
+the model. The test must reject copies of this output in which a reply, a call or the map is changed, or the last line
+is missing.
 """
 
 import os
@@ -148,7 +149,8 @@ def by_program(program, job, environment):
 
 
 def by_model(dice, map, scripts):
-    """Returns what the model prints if the calls of the operators mix in a random order."""
+    """Returns what the model prints if the calls of the operators mix in a random order. The calls of each operator
+    keep their order."""
     order = [name for name, calls in scripts.items() for _ in calls]
     dice.shuffle(order)
     left = {name: list(calls) for name, calls in scripts.items()}

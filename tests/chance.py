@@ -103,8 +103,8 @@ def random_job(dice):
 
 
 class Dice(random.Random):
-    """Makes all random choices with the method `random`, which gives the same numbers for a seed in every version of
-    Python."""
+    """Makes the choices of `randint`, `choice` and `sample` only with the method `random`, which gives the same
+    numbers for a seed in every version of Python."""
 
     def randint(self, low, high):
         return low + int(self.random() * (high - low + 1))

@@ -1,13 +1,13 @@
-"""Checks that the program isn't slow with names that would have the same hash if it hashed names without random keys.
+"""Checks that the program isn't slow with names that would collide if the program hashed names without random keys.
 
     python3 tests/colliding.py crates/crushedit/out/crushedit [NAMES]
 
-Names *collide* if they have the same hash. The program draws random keys for each run, and hashes names with these
-keys, so that nobody can find names that collide. A program that didn't use random keys would print the same output,
-but it would take longer if names collide. So the test runs each job twice: with names that collide if they are hashed
-without keys, and with as many other names of the same length. There are NAMES names, or 8,000 if NAMES isn't given.
-NAMES must be greater than 1,000. The test needs a Python that hashes with SipHash-1-3, as Python 3.11 and later
-versions do. With this Python, the test finds names that collide.
+Names *collide* if a hash table puts them in the same place. The program draws random keys for each run, and hashes
+names with these keys, so that nobody can find names that collide. A program that didn't use random keys would print
+the same output, but it would take longer if names collide. So the test runs each job with two sets of names: with
+names that collide if they are hashed without keys, and with as many other names of the same length. Each set has
+NAMES names, or 8,000 if NAMES isn't given. NAMES must be greater than 1,000. The test needs a Python that hashes with
+SipHash-1-3, as Python 3.11 and later versions do. With this Python, the test finds names that collide.
 
 There are three kinds of jobs. In the job `reading`, the program reads a map, and searches for names that aren't in
 the map. In the job `since`, the program reads a map that `--since` names. In the job `batches`, the program prints

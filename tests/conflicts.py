@@ -2,7 +2,7 @@
 
     python3 tests/conflicts.py crates/crushedit/out/crushedit [JOBS [SEED]]
 
-Without JOBS, the test runs 1,000 jobs. SEED may be any word. Without SEED, the test draws a random seed.
+Without JOBS, the test runs 400 jobs. SEED may be any word. Without SEED, the test draws a random seed.
 
 Each job has a random map, and random scripts of two to four operators. In two of three jobs, no command is refused
 when all scripts run one after the other. A script changes an *aspect* of an item, for example the weight of a device.
@@ -59,7 +59,8 @@ def key_of(before, map, name):
 
 
 def place_in(before, map, name):
-    """Returns the key of the bucket that holds an item, or None, and the text for this place."""
+    """Returns the key of the bucket that holds an item, and the text for this place. The key is None if no bucket
+    holds the item."""
     parent = map.parent(name)
     if parent is None:
         return None, "(unplaced)" if map.is_device(name) else "(root)"
@@ -171,7 +172,7 @@ def run(program, folder, words):
 
 
 def fault_of(program, folder, map, scripts):
-    """Returns what is wrong with a job, or None."""
+    """Returns what is wrong with a job, or an empty text if nothing is wrong."""
     lines, history = conflict_lines(map, scripts)
     with open(os.path.join(folder, "map"), "w") as out:
         out.write(map.text())

@@ -15,9 +15,9 @@ computes for the same history.
 
 The *plain model* is a second implementation of the program, in Python. The model makes the calls of the job, and this
 script computes a value for each document from the model's map and history lines. The script was written from
-docs/user/json.md alone. For `--since`, the items that have changed, and the numbers of changes, are read from the
-text that the model prints for `--since` without `--json`. The commands of a plan are those that the program prints
-for `--to` without `--json`. The model applies these commands.
+docs/user/json.md alone. For `--since`, the script reads from the text that the model prints without `--json` which
+items, rules and settings have changed, and the numbers of changes. The commands of a plan are those that the program
+prints for `--to` without `--json`. The model applies these commands.
 
 Each document must be one line of ASCII that Python's module json can read. The document must be byte for byte what
 the module json writes for the value, with the members sorted by name. The weights in plans are the only decimals, and
@@ -52,7 +52,7 @@ from reading import read_job, read_map
 ASKED = pathlib.Path(__file__).resolve().parent.parent / "examples/asked"
 CLASSES = ["hdd", "ssd", "nvme"]
 SERVED = {"replicated": 1, "erasure": 3}
-# Steps of rules that take no bucket.
+# The steps of a rule, except for the step `take`, which takes a bucket.
 STEPS = ["step set_choose_tries 100", "step set_chooseleaf_tries 5", "step set_choose_local_tries 0", "step set_chooseleaf_vary_r 1",
          "step set_choose_local_fallback_tries 2", "step set_chooseleaf_stable 1", "step choose firstn 0 type rack",
          "step chooseleaf firstn -1 type host", "step choose indep 4 type osd", "step chooseleaf indep 0 type row", "step emit"]
@@ -126,8 +126,8 @@ def class_ids_value(map, name):
 
 
 def seen_value(map, name):
-    """Returns the value that describes an item of a map. Returns None if the name is None, because the map doesn't
-    have the item."""
+    """Returns the value that describes the item with this name in a map. If the map doesn't have the item, the name is
+    None, and the result is None."""
     return name and without_none({"alg": map.items[name].get("alg"), "class": map.items[name].get("class"),
                                   "class_ids": class_ids_value(map, name), "name": name, "parent": map.parent(name),
                                   "type": type_name(map, name), "weight": map.weight(name)})
