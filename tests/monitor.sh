@@ -7,9 +7,9 @@
 # The script needs root. `install` installs the system Debian 13 in FOLDER, with the packages ceph-mon, ceph-common and
 # ceph-base. This takes 800 MB. If the program `debootstrap` is missing, `install` first installs it on the machine.
 # `start` starts a monitor with an empty store. The monitor knows ten OSDs (the server processes of disks), but they
-# don't run. `osds` then starts these OSDs and a manager of Ceph, so that pools can have data. Each OSD stores up to 1
-# GB in memory. `stop` ends all these processes. Each of them sees only FOLDER (`chroot`), and has its own mount of
-# /proc. So no mount is left, and FOLDER may be removed after `stop`.
+# don't run. `osds` then starts these OSDs and a manager of Ceph, so that pools can have data. Each OSD stores up to
+# 1 GB in memory. `stop` ends all these processes. They see only FOLDER (`chroot`), and have mounts of /proc that
+# disappear with them. So no mount is left, and FOLDER may be removed after `stop`.
 #
 # For `install`, FOLDER must be new or empty, or have the mark that an earlier `install` has put there. The script
 # writes and removes nothing in a folder that has other files and no mark, and the other commands need the mark.

@@ -7,22 +7,24 @@ these commands. The test needs root, and a monitor that `tests/monitor.sh start`
 
 The test makes PAIRS random pairs of maps. In three of four pairs, the second map is the first map after a script of
 random commands. The plain model, a second implementation of crushedit in Python, applies this script. In every fourth
-pair, the two maps have only names of items in common. For each pair, the test gives the first map to the monitor. Then
-it sends the monitor the commands of the plan from the first map to the second map. After that, it sends the commands
-of the plan from the map that the monitor now has back to the first map. For every other pair, the program compares the
-items of the two maps by name (`--by-name`). The following must be true after each plan:
+pair, the two maps are independent random maps, with names from the same short list. For each pair, the test gives the
+first map to the monitor. Then it sends the monitor the commands of the plan from the first map to the second map.
+After that, it sends the commands of the plan from the map that the monitor now has back to the first map. For every
+other pair, the program compares the items of the two maps by name (`--by-name`). The following must be true after each
+plan:
 
-- The monitor has accepted each command. These are the commands that `--to` prints with `--as-ceph`.
-- The monitor's map, as `crushtool -d` prints it, has exactly the differences that the plan reports as remaining. The
-  plain model finds the differences.
+- The monitor has accepted each command.
+- The monitor's map, as `crushtool -d` prints it, differs from the wanted map in exactly the differences that the plan
+  reports as remaining. The plain model finds the differences.
 - If the plan reports no difference, `ceph osd crush dump` shows the items of the wanted map, with the wanted types,
   places and classes. Each device has the wanted id, and rules take the wanted buckets. Each device's weight differs
   from the wanted weight by at most one unit (a 65536th of 1.0), because Ceph rounds weights down and crushedit rounds
   to the nearest unit.
 
 With --json, the plan is the document that `--to` prints with `--json`. The test sends each command of the document
-to the monitor exactly as it is. Without --json, the test translates the words of each command in the same way as the
-program `ceph`, with the descriptions of commands that the monitor sends.
+to the monitor exactly as it is. Without --json, the plan has the commands that `--to` prints with `--as-ceph`. The
+test then translates the words of each command in the same way as the program `ceph`, with the descriptions of commands
+that the monitor sends.
 
 Before the pairs, the test runs the recipe `crushedit-recipe --to` in FOLDER, and the command that the recipe prints
 to set the new map. Then it undoes this change with a second run of the recipe, on the commands of the file `back` that
@@ -30,7 +32,8 @@ the first run has written.
 
 The test prints how many commands of each kind the monitor got, and which differences remained. The status is 1 if
 the monitor refuses a command, or if a map isn't as it should be. All devices have names of the form `osd.N`, because a
-monitor gives no other device a class. In all other respects, the random maps are as in `against_monitor.py`.
+monitor gives no other device a class. The maps have the weights of the list WEIGHTS below. In all other respects, the
+random maps are as in `against_monitor.py`.
 """
 
 import collections
@@ -154,8 +157,8 @@ def make_plan(program, monitor, text, wanted, way, identity, counts, kind):
     """Sends the monitor a plan from its map to the wanted map, and returns the text of the monitor's map afterwards.
 
     `text` is the text of the monitor's map, and `wanted` is the text of the wanted map. `way` is a Lines or a
-    Documents. Raises Failed if the monitor refuses a command, or if its map isn't as the plan says. Counts the plan,
-    its commands and the differences that remain in `counts`.
+    Documents. Raises Failed if the monitor refuses a command, or if its map isn't as the plan says. Adds the plan, its
+    commands and the remaining differences to `counts`.
     """
     place = pathlib.Path(monitor.root, "mon", "wanted")
     place.write_text(wanted)

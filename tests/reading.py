@@ -26,7 +26,8 @@ LONGEST_NAME, LONGEST_JOB, LARGEST = 255, 16777216, 2**31 - 1
 NUMBER, NEGATIVE, SIGNED = "[0-9]{1,10}", "-[0-9]{1,10}", "-?[0-9]{1,10}"
 WEIGHT = r"[0-9]{1,10}(\.[0-9]{1,18})?"
 NAME = "[A-Za-z0-9._-]{1,255}"
-# The words that must follow the first word of each command. A location consists of up to MOST_PAIRS pairs TYPE=NAME.
+# The kinds of the words that must follow the first word of each command. A location consists of up to MOST_PAIRS pairs
+# TYPE=NAME. The function `is_guard` checks the words that follow `begin`.
 COMMANDS = {
     "add": ("device", "weight", "location"), "set": ("device", "weight", "location"),
     "create-or-move": ("device", "weight", "location"), "move": ("name", "location"),
@@ -38,7 +39,8 @@ COMMANDS = {
 
 
 class Fault(Exception):
-    """A fault of a text or a job. Its message is what the program prints after `crushedit: ` on standard error."""
+    """A fault of a text or a job. Its message is what the program prints on standard error after `crushedit: `, or
+    after `crushedit: since: ` for a fault in the file of `--since`."""
 
 
 def words(text):
@@ -291,7 +293,7 @@ def is_command(words):
 
 
 def is_guard(words):
-    """Returns whether a line `begin` has no more words, or has `at` and a number of at most MOST_ENTRIES changes."""
+    """Returns whether `begin` is the only word of a line, or only `at` and a number up to MOST_ENTRIES follow it."""
     return not words[1:] or (words[1] == "at" and len(words) == 3 and bool(re.fullmatch("0*[0-9]{1,5}", words[2]))
                              and int(words[2][-5:]) <= MOST_ENTRIES)
 
@@ -373,7 +375,7 @@ def joined(text, name, scripts):
 
     Each file of the list has three values: the file's name, the number of its first line in the whole text, and the
     number of that line in the file itself, which is 0 for an added line `%operator`. The first file is the job's own
-    file, which is called `name`.
+    file, and `name` is its name.
     """
     files = [(name, 1, 1)]
     for script, own in scripts:

@@ -1,5 +1,7 @@
 """Checks that the calls which only read from the editor can't acquire the editor's lock, so they never wait for it.
 
+These calls are `reading`, `note` and `learn`, of an `Editor` and of its `LockFreeReader`.
+
     python3 tests/readings_hold_no_lock.py
 
 The script copies the sources of all crates. In the copy of the crate crush_editor, it puts an attempt to acquire the

@@ -5,7 +5,8 @@
 Each test case is a function below. Some test cases give the recipe a map or a command for which one of its checks must
 stop the recipe. Others set the new map with the command that the recipe prints, and then look at the monitor's map. If
 OSDs (the server processes of disks) run, one test case counts the placement groups (PGs, the parts of the data) that
-have moved, and compares these numbers with those that the recipe has announced.
+have moved, and compares these numbers with those that the recipe has announced. Two other test cases, `exact_weights`
+and `negative_sums`, run only if no OSDs run.
 
 The script needs root, and a monitor that `tests/monitor.sh start` has started in FOLDER. The OSDs run if
 `tests/monitor.sh osds` has started them too. RECIPE is the path of another copy of bin/crushedit-recipe.
@@ -144,7 +145,7 @@ def missing_device(trial):
 
 
 def old_names(trial):
-    """Checks that the recipe stops if class trees have old names, and goes on after the command that it then prints.
+    """Checks that the recipe stops if class trees have old names, and prints a command after which it works again.
 
     If somebody renames a bucket with Ceph's own command `rename-bucket`, the bucket's class trees keep their old
     names. In the second half of the test case, two buckets have exchanged their names. So the old name of the class
@@ -166,7 +167,7 @@ def old_names(trial):
 
 
 def names_that_the_recipe_sets(trial):
-    """Checks that class trees have their new names after the recipe has renamed buckets, and that a next run works."""
+    """Checks that class trees have new names after the recipe has renamed buckets, and that the next run works."""
     trial.take(map_of(SMALL, TWO_RULES))
     before = trial.taken()
     trial.edit("rename-bucket default top")
@@ -181,7 +182,7 @@ def exact_weights(trial):
     """Checks that three runs of the recipe change no weight of 300 devices except for the weight that they set.
 
     There are two maps, whose weights have four and five decimals. Also prints how many of these weights would change
-    if only `crushtool` decompiled and compiled the map once.
+    if `crushtool` decompiled and compiled the map once, without the recipe.
     """
     dice = random.Random(1)
     trial.monitor.asked("osd", "setmaxosd", "400")

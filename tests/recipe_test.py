@@ -5,7 +5,7 @@
 
 Most test cases run the recipe in a new folder, and check its status, its messages and its files. Some of them also run
 the command that the recipe prints. The other test cases run the script on the page README.md, if the page is there,
-and compare the weights that crushedit prints with those that are compiled from them.
+and check that crushedit prints weights with `--exact` in such a form that compiling them changes no weight.
 
 RECIPE is the path of another copy of the recipe, such as an installed copy. No test case uses a cluster or Ceph's own
 tools. The script prints a line for each test case. The status is 1 if a test case fails.
@@ -56,8 +56,8 @@ class Trial(unittest.TestCase):
         self.folder = self.here / "folder"
         self.environment = {**os.environ, **{name.upper(): str(self.tools / name) for name in
                                              ("ceph", "crushtool", "osdmaptool", "crushedit")}}
-        # For each of these sizes of pools, the recipe runs crushtool twice. Test cases that delete REPLICAS test the
-        # sizes that the recipe tries by default.
+        # The recipe runs crushtool twice for each size of pools in REPLICAS, so there are only two sizes. Test cases
+        # that delete REPLICAS test what the recipe tries by default.
         self.environment["REPLICAS"] = "2 3"
 
     def put(self, name, text):
@@ -99,7 +99,7 @@ class Trial(unittest.TestCase):
         return printed
 
     def run_shown(self, printed, version):
-        """Runs the printed command that sets a map if the cluster's map has this version.
+        """Runs the printed command that sets a map and names this version of the cluster's map.
 
         Returns the words and the standard input that the stand-in for `ceph` got.
         """

@@ -1,11 +1,11 @@
-"""Runs crushedit on each job of examples/ and refuses its requests for memory one by one.
+"""Runs crushedit on each job of examples/, and refuses the requests of crushedit for memory one by one.
 
     python3 tests/refused_memory.py crates/crushedit/out/crushedit [TESTS] [WORD ..]
 
 The script compiles a C library and preloads it in each run. In one run, the library refuses the first request for
-memory of the process, in the next run the second request, and so on. The last run makes fewer requests than the number
-of the refused request. Each job is tested in two modes: without options, so that its operators run at once, and with
---in-turn. A run must end in one of two ways:
+memory of the process, in the next run the second request, and so on. In the last run, the process makes fewer requests
+than the number of the request to refuse, so none is refused. Each job is tested in two modes: without options, so that
+its operators run at once, and with --in-turn. A run must end in one of two ways:
 
 - The run ends with status 4, without output, and with the one line on standard error that is expected below.
 - The run ends exactly as the same run without a refused request. If several operators run at once, the order of their
@@ -21,9 +21,9 @@ these times:
 
 - in `pthread_create`;
 - between the starts of the first and the last operator's thread;
-- just before the start of the first operator's thread. These are as many requests as there are between the starts of
-  the first and the second operator's thread. If a job has one operator, this number isn't known, and the script
-  accepts both lines for the requests before the start of the operator's thread.
+- just before the start of the first operator's thread. The script assumes that there are as many such requests as
+  between the starts of the first and the second operator's thread. If a job has one operator, this number isn't known,
+  and the script accepts both lines for the requests before the start of the operator's thread.
 
 In further runs, `pthread_create` fails for one thread of the job. These runs must end with status 4 and `no thread`.
 
@@ -142,9 +142,9 @@ static int threads(void) {
     return count;
 }
 
-/* Ends the process, as the C library's `_exit` does. Before that, writes how many requests there were, and whether
-   another thread is left. Waits up to a second for the other threads, because a joined thread may still exist for a
-   moment. */
+/* Ends the process, as the C library's `_exit` does. Before that, writes how many requests there were, the values of
+   `before`, and whether another thread is left. Waits up to a second for the other threads, because a joined thread
+   may still exist for a moment. */
 void _exit(int status) {
     refused = 0;
     tell(counted, "", atomic_load(&asked), 0);
@@ -233,9 +233,10 @@ class Ending(Exception):
 def files_in(folder):
     """Returns the paths of the files that the library writes, by the names of their environment variables.
 
-    REFUSED_FILE says which thread made the refused request. LEFT_FILE exists if a thread is left at the end, or if the
-    program didn't end by `_exit`. COUNTED_FILE has the number of requests. STARTS_FILE has a number for each start of
-    a thread: how many requests the first thread had made before this start.
+    REFUSED_FILE exists if a request was refused or the start of a thread failed, and says which kind it was. LEFT_FILE
+    exists if a thread is left at the end, or if the program didn't end by `_exit`. COUNTED_FILE has the number of
+    requests. STARTS_FILE has a number for each start of a thread: how many requests the first thread had made before
+    this start, outside of `pthread_create`.
     """
     names = "REFUSED_FILE", "LEFT_FILE", "COUNTED_FILE", "STARTS_FILE"
     return {name: pathlib.Path(folder, name) for name in names}
@@ -245,8 +246,8 @@ def preloaded(command, library, files, job, number, thread=0):
     """Runs a command with the library, and returns how the run ended.
 
     The library refuses the request with the given number, from 1. If the number is 0 or -1, it refuses none. If the
-    number is -1, it counts only the requests of other threads than the first. The library makes the start of the
-    thread with the number `thread` fail, from 1, or no start if `thread` is 0.
+    number is 0, it also counts none. If the number is -1, it counts only the requests of other threads than the first.
+    The library makes the start of the thread with the number `thread` fail, from 1, or no start if `thread` is 0.
     """
     environment = {"LD_PRELOAD": library, "REFUSED_NUMBER": number, "THREAD_NUMBER": thread, **files}
     environment = {name: str(value) for name, value in environment.items()}
@@ -277,8 +278,8 @@ class Refuser:
         """Returns the lines that standard error may have after this request was refused.
 
         `told` has the words of REFUSED_FILE: the kind of the request (`operator` if another thread than the first made
-        it, `start` if it was in `pthread_create`, otherwise `first`), and the values of `own` and `started` in the
-        library.
+        it, `start` if it was in `pthread_create` or if `pthread_create` failed, otherwise `first`), and the values of
+        `own` and `started` in the library.
 
         If at least two threads are started, the first thread makes before[1] - before[0] requests for the second of
         them before it starts this thread. It makes as many requests for the first of them. If only one thread is
@@ -295,9 +296,10 @@ class Refuser:
         return [NO_THREAD if is_for_thread else NO_MEMORY]
 
     def wants(self, run, told, what):
-        """Returns whether a run with a refused request or start ended with status 4.
+        """Returns True if a run with a refused request or start ended with status 4 and an expected line.
 
-        Raises Ending if the run ended in another way, and not as the run without a refusal, or if a thread is left.
+        Returns False if the run ended as the run without a refusal. Raises Ending if the run ended in another way, or
+        if a thread is left.
         """
         if self.left.exists():
             raise Ending(f"{self.name}: {what}: a thread is left")
@@ -331,10 +333,10 @@ class Refuser:
 
 
 class TestRefuser(Refuser):
-    """Refuses the requests of a test in place of a job. The test must pass in each run."""
+    """Does the same as Refuser, but runs a test and not a job. The test must pass in each run."""
 
     def wants(self, run, told, what):
-        """Returns True if the test passed. Otherwise raises Ending, which says how the run ended."""
+        """Returns True if the test passed and no thread is left. Otherwise raises Ending."""
         if run.returncode == 0 and run.stdout.strip() == PASSED and not self.left.exists():
             return True
         how = "" if run.stderr.startswith(FAILED) else "no assertion failed, "
@@ -400,7 +402,7 @@ MAP = "\n".join([
 ])
 CHANGED, SAME = "done changed 1 made 0", "done changed 0 made 0"
 # Calls for which the map should allocate no memory. Each has its reply, and a call of the same length that is refused
-# because the map doesn't have a name. N stands for each of NUMBERS, and M for N + 60.
+# because the map lacks one of the call's names. N stands for each of NUMBERS, and M for N + 60.
 NO_MEMORY_TAKEN = [
     ("reweight osd.N 2.0", CHANGED, "reweight osd.M 2.0"),
     ("reweight osd.N 1.0", SAME, "reweight osd.M 1.0"),
@@ -430,7 +432,7 @@ class Counter:
         """Runs a job with the calls `before` and then `calls`, and returns how many requests the operator's thread
         makes.
 
-        Raises Ending if not each of `calls` gets this reply.
+        Raises Ending if the reply to one of `calls` doesn't begin with `reply`.
         """
         job = "\n".join([MAP, "%operator a", *before, *calls, ""]).encode()
         run = preloaded(self.command, self.library, self.files, job, -1)
@@ -444,7 +446,8 @@ class Counter:
 def take_none(program, library):
     """Tests the calls for which the map should allocate no memory, and returns how many kinds of them there are.
 
-    Raises Ending if one of these kinds makes another number of requests than the refused calls of the same length.
+    Raises Ending if one of these kinds makes another number of requests than the refused calls of the same length, or
+    makes none.
     """
     kinds = [
         ([], [line.replace("N", str(number)) for number in NUMBERS], reply,

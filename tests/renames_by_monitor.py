@@ -8,9 +8,9 @@ has started in FOLDER.
 
 The monitor gets N random maps, one after the other. Each map has rules with a step `take BUCKET class CLASS`. A script
 of `rename-bucket` commands gives new names to these buckets. The test sends the monitor the commands that `--as-ceph`
-prints for the script, and the monitor must accept each of them. After that, the name of each class tree must begin
-with the name of a bucket of the map. In the text that `crushtool -d` prints of the monitor's map, the steps `take`
-must have the new names.
+prints for the script, and the monitor must accept each of them. After that, the part of each class tree's name before
+the `~` must be the name of a bucket of the map. In the text that `crushtool -d` prints of the monitor's map, the steps
+`take` must have the new names.
 
 With --leave-out, the test doesn't send the commands `reweight-all`. Then some class trees keep their old names, which
 shows that the test notices such names.
@@ -40,8 +40,8 @@ RULE = """rule taken{number} {{
 
 
 def with_rules(text, dice):
-    """Adds rules to the text of a map, each with a step `take BUCKET class CLASS` for another bucket. Returns the new
-    text and the names of these buckets."""
+    """Adds rules to the text of a map, each with a step `take BUCKET class CLASS`. No two rules take the same bucket.
+    Returns the new text and the names of these buckets."""
     names = re.findall(r"(?m)^(?:host|rack|row|root|room) (\S+) \{$", text)
     taken = dice.sample(names, min(len(names), dice.choice((1, 2, 3))))
     rules = "".join(RULE.format(number=number, id=number + 10, bucket=name, kind=dice.choice(CLASSES)) for number, name in enumerate(taken))
@@ -49,8 +49,8 @@ def with_rules(text, dice):
 
 
 def other_names(monitor):
-    """Returns the names of all class trees of the monitor's map, and then those that don't begin with a bucket's
-    name."""
+    """Returns the names of all class trees of the monitor's map, and then those names whose part before the `~` isn't
+    the name of a bucket."""
     names = [bucket["name"] for bucket in json.loads(monitor.asked("osd", "crush", "dump"))["buckets"]]
     trees = [name for name in names if "~" in name]
     return trees, [name for name in trees if name.partition("~")[0] not in names]

@@ -41,8 +41,8 @@ import tempfile
 
 RUNS = pathlib.Path(__file__).resolve().parent / "runs"
 SHARED = "texts"
-# The most seconds that a command may run, far more than any command needs. Without this limit, a program that hangs
-# would keep the checks of `make check` forever.
+# The most seconds that a command may run, far more than any command needs. Without this limit, `make check` would
+# never end if a program hung.
 LONGEST = 900
 GAP = "..."
 # If an output isn't as expected, and has at most this many lines, all its lines are printed.

@@ -12,14 +12,14 @@ describe them. Each case is a command of bash, which runs in a new folder with t
 - `refused`: a map and a script with a command that crushedit refuses.
 
 In a command, `$C` is the program, and `$L` is a library that the command may preload. With this library, each sync of
-a file fails because the disk is full. The script compiles the library with the C compiler that the variable CC names,
+a file fails as if the disk were full. The script compiles the library with the C compiler that the variable CC names,
 or with `cc` or `gcc`.
 
 For each case, the script compares three results: the status (if a signal ended the run, 128 plus the signal's number),
-the text on standard error, and how much of the output was written. If the program can't open or read a file, standard
-error must have the file's name and the system's reason with `--explain`. If the program can't read standard input,
-standard error has no reason. In some cases, standard error is a terminal. Then the reasons must be there also without
-`--explain`.
+the text on standard error, and how much of the output was written. If `--explain` is given and the program can't open
+or read a file, standard error must have the file's name and the system's reason. If the program can't read standard
+input, standard error has no reason. In some cases, standard error is a terminal. Then the reasons must be there also
+without `--explain`.
 
 The script prints a line for each case with another result than the expected one, and its status is then 1. With
 --table, the script compares nothing, and prints the results of all cases as a table.

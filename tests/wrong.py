@@ -11,18 +11,19 @@ crates/NAME/wrong/, which this script calls an *edit*. The file has a line `file
 `rt must-fail` checks the whole crate for each edit. This script works in rounds instead. In each round, it applies as
 many edits of a crate as it can to one copy of the crate, but at most one edit for each function. Then it lets the
 prover check only the edited functions (`rattle check --only`). This is enough, because a proof uses the contracts of
-other functions, and never their bodies. So an edit of one function changes nothing for another function. In two cases,
-an edit waits for a further round: if the round already has an edit of the same function, or if the only complaint of
-the prover about the function is that it calls a function that isn't proved. An edit outside of functions, for example
-in a constant, has a round of its own, in which the prover checks the whole crate.
+other functions, and never their bodies. So an edit of one function changes nothing for another function. An edit waits
+for a further round in three cases: if the round already has an edit of the same function, if the edit can't be applied
+after the other edits of the round, or if the only complaint of the prover about the function is that it calls a
+function that isn't proved. An edit outside of functions, for example in a constant, has a round of its own, in which
+the prover checks the whole crate.
 
 The script works on copies of the sources. It needs the libraries that `rt ci` or `rt check` has built for all crates
-on which the crate depends. The crate itself must have been proved, too. --jobs says how many crates are checked at a
-time (1 by default). --top names another repository. Without a CRATE, the script checks all crates that have wrong
-bodies.
+on which the crate depends. The crate itself must have been proved, too. Otherwise, the prover may refuse a function
+for another reason than its edit. --jobs says how many crates are checked at a time (1 by default). --top names another
+repository. Without a CRATE, the script checks all crates that have wrong bodies.
 
-The script prints a line for each edit that the prover doesn't refuse because of the broken promise, a line for each
-crate, and at the end `N passed, M failed`. The status is 1 if one of these is true for an edit:
+The script prints a line for each edit except for those that the prover refuses because of the broken promise, a line
+for each crate, and at the end `N passed, M failed`. The status is 1 if one of these is true for an edit:
 
 - The edited function is still proved.
 - The edit can't be applied, or the prover can't read the edited sources.
@@ -135,8 +136,8 @@ def impl_owner(head, module, folder):
 
 
 def place_of(text, offset, path, folder):
-    """Returns the place of a byte of a file. `offset` is the number of bytes before it, and `path` is the file's
-    path."""
+    """Returns the place of a character of a file. `offset` is the number of characters before it, and `path` is the
+    file's path."""
     module, function = module_of(path), None
     for line in reversed(text[: text.find("\n", offset)].split("\n")):
         if function is None:
@@ -270,7 +271,10 @@ def each_alone(crate, edits, folder, check):
 
 
 def check_round(chosen, texts, folder, room, check):
-    """Copies the crate with these texts, lets the prover check the edited functions, and returns its output."""
+    """Copies the crate with these texts, lets the prover check the edited functions, and returns the prover's output.
+
+    If an edit is outside of functions, the prover checks the whole crate.
+    """
     copy = room / "crate"
     shutil.rmtree(copy, ignore_errors=True)
     for part in ("src", "specs", "proofs"):

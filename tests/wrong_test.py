@@ -4,8 +4,8 @@
     python3 tests/wrong_test.py
 
 A *wrong body* is a deliberate error in a function, which the prover should refuse. Each wrong body is a file, which is
-called an *edit*. Each test case writes a crate and its edits into a temporary folder. The edits of each crate show one
-kind of result.
+called an *edit*. Each test case writes a crate and its edits into a temporary folder. Each test case is about one
+situation, for example two edits of the same function.
 
 The script needs only the toolchain, and takes about a minute of processor time. The status is 1 if a test case fails.
 """
