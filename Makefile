@@ -6,7 +6,8 @@
 #                   map. `make try JOB=my.job ARGS=--in-turn` runs another job, with other options. In ARGS, `map` is
 #                   the name of a file with the map of JOB
 #   make test       runs the tests of all crates, the stored runs and the tests of the whole program, without proving
-#                   anything. It leaves out limits.py, refused_memory.py, wrong.py and wrong_test.py of tests/
+#                   anything. It leaves out four tests of the gate (see `make check`): limits.py, refused_memory.py,
+#                   wrong.py and wrong_test.py of tests/
 #   make check      runs the gate, that is, the checks that every change must pass. The gate proves everything for
 #                   which no proof is kept on this machine, runs the tests, and tries the wrong bodies (deliberate
 #                   errors that the prover must refuse)
@@ -16,7 +17,8 @@
 #   make dist       writes an archive of the program, the recipe and the pages to out/, and also a package for Debian
 #                   if dpkg-deb is installed
 #   make manual     writes the manual page man/crushedit.1 from the help. `make check` compares the page with the help
-#   make tables     writes the processor seconds that the last `make check` took for each crate into CONTRIBUTING.md
+#   make tables     writes a table into CONTRIBUTING.md: the processor seconds that the prover took for each crate in
+#                   the last `make check`
 #   make recipe     installs the program and the recipe below out/tried, and then tests the installed recipe, and the
 #                   examples of the pages with the installed program
 #   make trials     tests the program with sessions of a shell, random jobs, little memory and stack, and streams that

@@ -2,12 +2,13 @@
 
     python3 bench/exact_weights.py FOLDER [--maps N] [--monitor N [--program PROGRAM]] [--seed SEED]
 
-A weight of 1.0 has 65,536 *units*. An *exact* weight has six digits after the point, so that Ceph, which rounds each
-weight down, reads the same number of units. FOLDER is the folder in which `tests/monitor.sh install` has installed
-Ceph.
+A weight of 1.0 has 65,536 *units*. An *exact* weight is rounded up to six digits after the point, so that Ceph, which
+rounds each weight down to units, reads the original number of units. FOLDER is the folder in which `tests/monitor.sh
+install` has installed Ceph.
 
 Without --monitor, the script tests `crushtool`. It writes each weight of a device from 1 to 6,553,600 units (100 TiB,
-the largest weight that `crushtool -c` reads) in exact form. These weights are in 100 maps with 65,536 weights each.
+the largest weight of a device that `crushtool -c` accepts) in exact form. These weights are in 100 maps with 65,536
+weights each.
 `crushtool -c` compiles each map. Then the weights that `crushtool --dump` prints must have the same units. The weights
 that `crushtool -d` prints must also have the same units, if they are rounded to the nearest unit. A map has 500
 devices, and each of its buckets, except for the last one, holds all of them with other weights. Ceph allows that, and
@@ -126,7 +127,10 @@ class Ceph:
 
 
 def try_map(ceph, text, weights):
-    """Returns how many items of a map don't come back from crushtool with these weights, in the order of the text."""
+    """Returns how many items of a map come back from crushtool with another weight.
+
+    `weights` has the units of all items, in the order of the text.
+    """
     dumped, printed = ceph.weights_of(text)
     if len(dumped) != len(weights) or len(printed) != len(weights):
         sys.exit(f"{len(weights)} items, {len(dumped)} in the dump, {len(printed)} in the text")

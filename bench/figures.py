@@ -13,8 +13,8 @@ columns:
 - `memory`: the most memory that crushedit had at one time, divided by the number of bytes of the job
 
 Each time is the shortest time of all repeats. The script measures the memory in one more run, with GNU `time`. If GNU
-`time` isn't installed, the column `memory` has a `-`. If a run takes longer than the limit, the column `seconds` has a
-`-`, and the rest of the line is missing.
+`time` isn't installed, the column `memory` has a `-`. If a run of crushedit takes longer than the limit, the column
+`seconds` has a `-`, and the rest of the line is missing.
 
 With --crushtool, the script also prints how long Ceph's crushtool takes to compile the map of 60,000 devices, to set
 one weight, and to decompile the map. It prints nothing about crushtool if crushtool isn't installed.
@@ -35,7 +35,7 @@ from times import memory
 
 # The line that ends the text of the map. The commands of the operator `a` follow.
 OPERATOR = "%operator a\n"
-# The largest number of devices of a map, and the largest number of commands of a job.
+# The largest number of devices of a map, and the largest number of calls (commands and batches) of a job.
 MOST = 65536
 # The file for the option `--since`. It has the map of 60,000 devices before the edit.
 SINCE = "since"
@@ -67,7 +67,7 @@ def script(count, line):
 def far(number, count=MOST):
     """Returns a number below `count`. Two numbers that follow one another get results that are far apart.
 
-    Each number below `count` gets another result.
+    Different numbers below `count` get different results, because 7919 is a prime number that doesn't divide `count`.
     """
     return (count - 1 + number * 7919) % count
 

@@ -4,9 +4,9 @@
     python3 bench/hostile.py --write FOLDER [--megabytes 1 16] [--only WORD ..]
 
 The script runs crushedit with each input in each size of --megabytes. A megabyte is 1,000,000 bytes, and an input has
-at most this number of bytes. The only exception is `full_swaps`: its map alone has 2 MB. For each run, the
-script prints the name of the input, its bytes, the processor seconds, the status of crushedit, and what crushedit has
-written to standard error.
+at most this number of bytes. With 1 MB and more, the only exception is `full_swaps`: its map alone has 2 MB. For each
+run, the script prints the name of the input, its bytes, the processor seconds, the status of crushedit, and what
+crushedit has written to standard error.
 
 --limit has one limit for each size. Without --limit, crushedit may take 5 seconds for inputs of at most 1 MB, and 60
 seconds for larger inputs. If a run takes longer, the script ends the run and prints `> LIMIT` in place of the seconds.
@@ -38,8 +38,8 @@ MOST_DEVICES, MOST_BUCKETS, MOST_CALLS = 65536, 4096, 65536
 TYPES = ["type 0 osd", "type 1 host", "type 2 chassis", "type 3 rack", "type 11 root"]
 # The line that ends the text of the map. The commands of the operator `a` follow.
 OPERATOR = "%operator a"
-# The index of a map finds an item by its id. If the id is nearer to 0 than this number, the item may be in a vector.
-# The items with other ids, the *far* ids, are in a hash table.
+# The index of a map has an entry for each item, and finds the entry by the item's id. If the id is nearer to 0 than
+# this number, the entry may be in a vector. The entries of all other ids, the *far* ids, are in a hash table.
 FAR = 131072
 
 
@@ -51,7 +51,7 @@ def bytes_of(lines):
 def filled(lines, size, more, most=MOST_CALLS):
     """Returns the lines, followed by `more(0)`, `more(1)`, and so on.
 
-    Appends as many of them as fit into `size` bytes, but at most `most`.
+    Stops before all lines together would have more than `size` bytes, and at the latest after `more(most - 1)`.
     """
     left, lines = size - bytes_of(lines), list(lines)
     for number in range(most):
@@ -117,7 +117,10 @@ def long_name(number):
 
 
 def devices_for(size):
-    """Returns how many devices, with their items, take half of `size` bytes in the map of `flat`."""
+    """Returns how many devices, with their items, take about half of `size` bytes in the map of `flat`.
+
+    Returns at most the number of devices that a map may have.
+    """
     return min(MOST_DEVICES, size // 2 // 50)
 
 
@@ -204,7 +207,7 @@ def weights_at_the_foot_of_far_ids(size):
 def swaps_at_the_foot_of_far_ids(size):
     """One batch that exchanges the two innermost hosts, which have far ids, again and again.
 
-    Each exchange finds four ways from a host up to the root.
+    For each exchange, the program finds the way from each of the two hosts up to the root more than once.
     """
     lines = filled(fork_at_the_foot(FAR) + [OPERATOR, "begin"], size - 7, lambda n: "swap-bucket left right", 65536)
     return lines + ["commit"]
@@ -512,7 +515,7 @@ def documents_of_a_nest(size):
     return nest(4000, devices=min(MOST_DEVICES // 2, room // 50))
 
 
-# The inputs that are run with options, and these options.
+# The inputs of INPUTS that are run with options, and these options.
 WORDS = {"documents_tree": ["--tree"], "documents_map_as_json": ["--json"], "documents_tree_as_json": ["--json", "--tree"]}
 
 # How many times as long as the tree a JSON document may take.
@@ -617,9 +620,9 @@ INPUTS = {
 
 
 def timed(program, job, limit, words=()):
-    """Runs a job with these options. Returns the processor seconds, the status, and what standard error has.
+    """Runs a job with these options. Returns the processor seconds, the status, and the text of standard error.
 
-    If the run takes longer than the limit, the seconds are None.
+    If the run takes longer than the limit, the seconds are None, the status is 0, and the text is empty.
     """
 
     def limited():

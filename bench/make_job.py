@@ -38,7 +38,7 @@ RULE = [
 
 
 def bucket(kind, name, number, items):
-    """Returns the lines of a bucket with the id `-number`. `items` has pairs of a name and twice a weight."""
+    """Returns the lines of a bucket with the id `-number`. `items` has pairs: a name, and twice the item's weight."""
     lines = [f"{kind} {name} {{", f"\tid -{number}", "\talg straw2", "\thash 0"]
     lines += [f"\titem {item} weight {weight / 2:.5f}" for item, weight in items]
     return lines + ["}"]

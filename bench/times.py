@@ -15,7 +15,7 @@ other programs are these:
 
 For each job, the script prints a line with the following columns:
 
-- The number of devices and the number of calls.
+- The number of devices and the number of calls. With --operators, also the number of operators.
 - The elapsed seconds of each program. For crushtool, this is the time of both its runs together. Each time is the
   shortest time of all repeats. The programs run alternately, so that other work on the machine slows all of them in
   the same way.
@@ -26,7 +26,7 @@ For each job, the script prints a line with the following columns:
 With --operators, the script divides the calls of each job among N operators, for each given N. There are two runs of
 crushedit: in the first run, the scripts of the operators run at the same time, and in the second run (`in turn`), they
 run one after the other, with the option --in-turn. At the end of the line, the script prints how many calls per second
-each of the two runs makes. This time includes the time to read and to print the map.
+each of the two runs makes. The time of a run includes the time to read and to print the map.
 
 If a run takes longer than the limit, or if crushtool or GNU `time` isn't installed, the line has a `-` in place of the
 number. The status is 1 if a program fails.
@@ -75,8 +75,8 @@ def least(contenders, limit, repeat):
 def memory(commands):
     """Returns the most memory that one of the commands has at one time, in MiB, or None if GNU time isn't installed.
 
-    GNU time starts the commands. If Python started them, the number of the system would include the memory that Python
-    has when it starts a process, and this is more than a small job needs.
+    GNU time starts the commands. If Python started them, the number that the system reports would include the memory
+    that Python has when it starts a process, and this is more than a small job needs.
     """
     teller = shutil.which("time")
     if teller is None:

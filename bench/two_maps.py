@@ -13,8 +13,9 @@ the commands that change the first map into the second map. For each pair, the s
 
 If a run takes longer than the limit, the line has a `-` in place of the number. The status is 1 in these cases:
 
-- A run takes longer than the limit.
-- `--since` takes more than three times as long as `--tree`. With `--tree`, crushedit reads only one map.
+- A run of crushedit takes longer than the limit.
+- `--since` takes more than three times as long as `--tree`. (With `--since`, crushedit reads both maps, and with
+  `--tree` only one.)
 - `--to` takes more than four times as long as `--since`. For the pair of maps that have nothing in common, `--to` may
   take ten times as long, because the plan of this pair has 129,000 commands.
 """

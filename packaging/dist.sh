@@ -1,6 +1,6 @@
 #!/bin/sh
 # Packs the program for machines without the toolchain. Writes an archive, and also a package for Debian if dpkg-deb is
-# installed. Prints the paths of both.
+# installed. Prints the path of each of these files.
 #
 #     packaging/dist.sh crates/crushedit/out/crushedit [FOLDER]
 #

@@ -9,21 +9,23 @@ script prints one line for each fault that it finds. The status is 1 if it has f
 - Names. If a page of docs/ or CONTRIBUTING.md has a name in backticks, the crates must declare this name, for example
   as a function, a type, a definition or a clause of a contract. The name may also be the name of a crate, of a file of
   a crate or of a job of examples/, or a word in a code block of the same page. The crates of tests don't count, except
-  on a line that names a crate of tests. The pages of WORDS_OF_TEXTS (in sources.py) are left out, because they also
-  have words of jobs and words of Ceph in backticks.
+  on a line that names a crate of tests. SIGNATURES.md is left out. The pages of WORDS_OF_TEXTS (in sources.py) are
+  left out, too, because they also have words of jobs and words of Ceph in backticks.
 - Files. If one of these pages has a file or a folder in backticks, the repository must have it.
-- Links. Each link must lead to a file, and to a heading of this file if the link names one.
+- Links. Each link of a page, except for a link to the web, must lead to a file. If the link names a heading, the file
+  must have this heading.
 - Additions. CONTRIBUTING.md lists the files that each kind of addition touches. If a file in src/, specs/ or proofs/
-  of a crate has all variants of an enum of ADDED, or all words of a list of NAMED, the section must list the file.
+  of a crate has all variants of an enum of ADDED, or all words of a list of NAMED, the section of CONTRIBUTING.md
+  about this addition must list the file. The crates of tests don't count.
 - Contracts. If a public function has several possible errors, a clause of its contract must say which error the
   function returns. If a public function can fail and has a `&mut` argument, a clause must say what the argument is
   after an error. TOLD and LEFT have the names of these clauses. PROVED.md must explain these clauses, and must list
   each function that needs such a clause and has none. PROVED.md must also list the functions that may wait.
 - Wrong bodies. A *wrong body* is a deliberate error that the prover must refuse. The name of its file must contain the
-  name of a function of its crate.
+  name of a function of its crate, or begin with `display_`.
 - Examples. examples/README.md must name each folder of examples/, and each job of examples/ and examples/worked/.
 - Layers. The table of docs/ARCHITECTURE.md must put each crate into a layer, except for programs, crates of tests and
-  the crate `crush`. The table must also list the calls between layers.
+  the crate `crush`. The table must also list the calls between layers. No layer may call a layer above it.
 - Versions. Each file of VERSIONS must have the version that `crushedit --version` prints. If `rt` is installed, then
   `crushedit --version` and PROVED.md must name the logic (the version of the prover's rules) that `rt version` prints.
 - Written files. The files that the scripts of MADE_BY write must be what the scripts would write now.

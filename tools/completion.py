@@ -7,8 +7,9 @@ crates/crush_options.
 With these files, a shell completes the words that a user types. The first word is completed to a verb or to the name
 of a file. A word that begins with `-` is completed to an option. If the line begins with a verb, the shell offers the
 options of this verb, and otherwise the options of a command line without a verb. bash and zsh don't offer an option a
-second time if it can be given only once. Any other word is completed to the name of a file, and so is the value of an
-option that names a file.
+second time if it can be given only once. (After the letter of an option, bash still offers the long name of the
+option.) If the value of an option is the name of a file, the value is completed to the name of a file, and otherwise
+it isn't completed. Any other word is completed to the name of a file.
 
 The script needs only Python 3. With --check the script writes nothing, and the status is 1 if a file isn't what the
 script would write.
@@ -22,7 +23,7 @@ from manual import SCRIPT, SOURCE, verbs, words_of
 FOLDER = pathlib.Path(__file__).resolve().parent.parent / "completions"
 # The names that the help gives to those values of options that are names of files.
 FILES = {"FILE", "MAP", "SCRIPT"}
-# The first line of each file, and the texts of the three files. The parts in braces are filled in below.
+# The comment at the top of each file, and the texts of the three files. The parts in braces are filled in below.
 HEAD = "# Completion of crushedit's command line for {shell}, as tools/completion.py makes it of the help.\n"
 BASH = """\
 {head}

@@ -14,8 +14,8 @@ The script looks at the provers once a second, so the last second of a prover ca
 writes LOG about every ten seconds, so LOG can lack the last seconds before the process ends.
 
 Without --watch, the script reads LOG, and writes a table between the comments BEGIN and END of CONTRIBUTING.md. The
-table has a row for each crate, a row with the sums, and a line with the longest chain of crates that wait for one
-another.
+table has a row for each crate, and a row with the sums. Below them is a line with the longest chain of crates in which
+each crate waits for the proof of the crate before it.
 
 The script needs Linux (it reads /proc), Python 3, and the file crates.txt.
 """

@@ -4,7 +4,7 @@
     python3 tools/doors.py [CRATE ..]
 
 A *door* is a function, a method or a constant that code outside its crate can use. The script checks all library
-crates, or only the crates that are named. For each door, one of these conditions must be true:
+crates, or only the crates that the command line names. For each door, one of these conditions must be true:
 
 - Another crate uses the door in its code. Crates of tests don't count. For a constant, a contract or a proof of the
   other crate counts, too.

@@ -2,8 +2,8 @@
 
 The texts are the pages, the scripts, the Makefile, .ci/run, the sources of the crates with their comments, and some
 other files (see READ and READ_TOO). A path is a word that begins with one of FOLDERS, such as `tools/check.py`. In a
-path, `*` and a word of capital letters stand for any name, and `{a,b}` stands for each of the names `a` and `b`. A
-path with a folder `out` may be missing, because builds create these folders.
+path, `*` and a word of three or more capital letters stand for any name, and `{a,b}` stands for each of the names `a`
+and `b`. A path with a folder `out` may be missing, because builds create these folders.
 
 If a page has a file name in backticks, such as the name of a script or of a page, the repository must have a file with
 this name. docs/README.md must have a link to each page of docs/.
@@ -16,8 +16,8 @@ from sources import TOP, files_below
 # The folders at the top of the repository with which a path may begin.
 FOLDERS = (".ci", "bench", "bin", "completions", "crates", "docs", "examples", "man", "packaging", "tests", "tools")
 # Paths that texts may name although this repository doesn't have them. They belong to the archive that `make dist`
-# writes and to the toolchain. One of them is the toolchain's own folder for wrong bodies (deliberate errors that the
-# prover must refuse), which this repository doesn't use.
+# writes and to the toolchain. The last three stand for the toolchain's own folder for wrong bodies (deliberate errors
+# that the prover must refuse), which this repository doesn't use.
 ELSEWHERE = {"bin/crushedit", "bin/rattle", "crates/*/must-fail", "crates/NAME/must-fail", "crates/NAME/must-fail/"}
 # A path. The text before it must not belong to a longer path, except for `$top/` in a shell script.
 PATH = re.compile(r"(?:(?<![\w./$})-])|(?<=\$top/))(?:" + "|".join(map(re.escape, FOLDERS)) + r")/(?:[\w.*+/-]|\{[^{}\n]*\})*(?![\w.*+/\[\\-])")

@@ -5,14 +5,14 @@
 
 The page has the names in the table of docs/dev/CALLING.md, and the names of OFFERED in tools/doors.py. It also has
 each type that occurs in the signature of a function, in a field or in a variant of another item of the page. Each type
-is in the section of the last crate, in the order of crates.txt, that declares or re-exports it. (The crate `crush`
-doesn't count.) The page shows these things:
+and each function is in the section of the last crate, in the order of crates.txt, that declares or re-exports it. (The
+crate `crush` doesn't count.) The page shows these things:
 
 - For a type: its public fields or its variants, its public methods, and its traits. A method is left out if its head
   names a type of INSIDE, because a caller never has a value of such a type.
 - For a function: its head, and the names of the clauses of its contract.
 - For a module of constants: each constant.
-- For each of these, and for each field and variant: its whole comment.
+- For each type, function, method, field, variant and constant: its whole comment.
 
 The script needs only Python 3. With --check the script writes nothing, and the status is 1 if the page isn't what the
 script would write.
@@ -40,12 +40,12 @@ For example, the method `finish` of a `MapBuilder` has the comment `// requires;
 - A comment `// traits: ..` has the traits that the type below it implements.
 - The type parameter `A` is the allocator of a map's memory. The type parameter `N` is the name of an editor. The type parameter `O` says whether an editor keeps a copy of its opening map, the map before the first call.
 """
-# Types of which a caller never has a value, because a caller gets a map from a reader or a builder. The page has no
-# methods whose heads name such a type.
+# Types of which a caller never has a value, because a caller gets a map from a reader or a builder. The page has
+# neither these types nor methods whose heads name them.
 INSIDE = {"Hierarchy", "Guide"}
 # Traits that the page doesn't show: every type has `Drop`, and only contracts use `Model`.
 UNTOLD = {"Drop", "Model"}
-# The number of columns of the page.
+# The number of columns to which the code on the page is wrapped.
 WIDTH = 116
 # The heads of functions, types, functions of a trait, and constants.
 FUNCTION = re.compile(r"(?m)^(?P<in>(?:    )?)pub (?P<kind>(?:const )?(?:unsafe )?)fn (?P<name>\w+)")
@@ -71,8 +71,8 @@ def order():
 class Crate:
     """A crate: its files, the names that it declares publicly, and the names that it re-exports from other crates.
 
-    `shown` has the names of its own modules that the crate shows. `handed` has the names that the crate re-exports,
-    each with the crate from which it comes.
+    `public` has the names of its public modules. `shown` has the names that it makes public with `pub use` from its
+    own modules. `handed` has the names that it re-exports from other crates, each with the crate from which it comes.
     """
 
     def __init__(self, name):

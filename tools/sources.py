@@ -14,7 +14,7 @@ MADE = TOP / "docs/dev/SIGNATURES.md"
 CONTRIBUTING = TOP / "CONTRIBUTING.md"
 # The pages whose statements are compared with the sources.
 PAGES = sorted(set((TOP / "docs").rglob("*.md")) - {MADE}) + [TOP / "README.md", CONTRIBUTING, TOP / "bench/README.md", TOP / "tests/README.md"]
-# The pages of which only the links are checked.
+# Further pages, whose links are checked, too.
 LINKED = [MADE, TOP / "SECURITY.md", TOP / "bench/RESULTS.md", TOP / "crates/README.md", TOP / "examples/README.md", TOP / "tools/README.md"]
 # The crates that are programs. No other crate calls a function of a program.
 PROGRAMS = {path.parent.parent.name for path in TOP.glob("crates/*/src/main.rt")}
@@ -98,7 +98,7 @@ def cells(row):
 
 
 def tables(text):
-    """Yields each table of a page, as its head and its rows. Each of these is a list of cells."""
+    """Yields each table of a page, as its head and a list of its rows. The head and each row are lists of cells."""
     head, rows = None, []
     for line in text.splitlines() + [""]:
         if line.startswith("|"):
@@ -147,7 +147,8 @@ def contracts():
     """Yields each public function of the crates: its crate, its name, and the text of its head and its contract.
 
     The name of a method has the name of its type in front, as in `Weight::read`. The text begins after the name of the
-    function. Crates of tests and programs are left out.
+    function. Crates of tests and programs are left out, and so are functions of private modules that lib.rt doesn't
+    re-export.
     """
     start = re.compile(r"(?m)^(?:impl\b[^{;]*\{|\}|(?P<in> *)pub (?:const |unsafe )?fn (?P<name>\w+))")
     for path in crate_files():

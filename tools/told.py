@@ -16,8 +16,8 @@ These are the statements:
 - Errors and values must have the traits that CALLING.md says they have.
 - FORMATS.md must have a heading for each option of the command line, and README.md must have a row for each exit
   status.
-- The crates must declare each name of a type, a refusal or a fault that the pages of WORDS_OF_TEXTS (in sources.py)
-  have in backticks.
+- If a page of WORDS_OF_TEXTS (in sources.py) has a name of two or more capitalized words in backticks, such as
+  `JobFault`, the crates must declare this name. Types, refusals and faults have such names.
 
 Each function whose name ends in `_faults` yields a line for each statement that is wrong.
 """
@@ -95,7 +95,7 @@ def named_sentence_faults():
 
 
 def unprinted(sentence, specs):
-    """Returns the parts of a sentence between its words in capital letters that no definition has."""
+    """Splits a sentence at its words in capital letters, and returns the parts that no definition has."""
     literals = re.findall(r'codes "([^"]*)"', specs)
     parts = [part.strip(" `") for part in re.split(r"\b(?:[A-Z]{4,}|N)\b", sentence)]
     return [part for part in parts if not any(part in literal for literal in literals)]
@@ -273,7 +273,10 @@ def word_faults():
 
 
 def name_faults():
-    """Yields the names of refusals, faults and types on pages of WORDS_OF_TEXTS that no crate declares."""
+    """Yields the names of refusals, faults and types on pages of WORDS_OF_TEXTS that no crate declares.
+
+    Only names of two or more capitalized words are checked.
+    """
     words = known_words()
     for page in PAGES:
         text = re.sub(r"```.*?```", "", page.read_text(), flags=re.S)
