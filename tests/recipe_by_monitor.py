@@ -23,7 +23,6 @@ import re
 import shutil
 import subprocess
 import sys
-import time
 
 from against_monitor import TOP, Failed, Monitor, within
 
@@ -275,13 +274,10 @@ def new_class(trial):
 
 
 def placed(trial):
-    """Returns the devices of each PG, as the cluster reports them after five seconds."""
-    time.sleep(5)
-    status, printed = trial.run("ceph pg dump pgs_brief -f json 2>/dev/null")
-    if status:
-        raise Failed(printed)
-    dump = json.loads(printed)
-    return {entry["pgid"]: entry["up"] for entry in (dump["pg_stats"] if isinstance(dump, dict) else dump)}
+    """Returns the devices of each PG, as the monitor computes them from its map."""
+    pools = json.loads(trial.monitor.asked("osd", "pool", "ls", "detail"))
+    pgs = [f"{pool['pool_id']}.{number:x}" for pool in pools for number in range(pool["pg_num"])]
+    return {pg: json.loads(trial.monitor.asked("pg", "map", pg))["up"] for pg in pgs}
 
 
 def what_moves(trial):
