@@ -4,9 +4,7 @@ use Rattle.std.specs.Prelude.{slice_index_or}
 use Rattle.std.proofs.lemmas.List.{append-nil, take_more, length-take-le, length-map, get_or-map}
 use Rattle.std.proofs.lemmas.List.Elements.{All-nil, All-push}
 use Rattle.crush_history.specs.History.{EntryData, change_of, changes}
-use Rattle.crush_history.specs.HistoryText.{line_head, line_text, entry_text, entries_text, names_of}
-use Rattle.crush_history.specs.declared.call.Call.{Call}
-use Rattle.crush_history.specs.declared.call.Reply.{Reply}
+use Rattle.crush_history.specs.HistoryText.{line_text, entry_text, entries_text, names_of}
 use Rattle.crush_history.specs.declared.entry.Entry.{Entry}
 use Rattle.crush_history.specs.Entries.{AreOf}
 use Rattle.crush_history.specs.declared.script.Script.{Script}
@@ -69,8 +67,3 @@ none_yet n entries is = subst (AreOf n) (sym is) (All-nil (λ (e : Entry). e.ope
 
 pub one_more : (n : ℕ) (now next : List Entry) (e : Entry) → next ≡ now ++ e ∷ [] → AreOf n now → e.operator < n → AreOf n next
 one_more n now next e is all among = subst (AreOf n) (sym is) (All-push (λ (x : Entry). x.operator < n) now e all among)
-
--- no line is empty: it begins with `#`
-pub line_is_some : (number : ℕ) (operator : List ℕ) (call : Call) (reply : Reply) → 0 < length (line_text number operator call reply)
-unfolding line_head
-line_is_some number operator call reply = omega arith

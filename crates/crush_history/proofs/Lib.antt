@@ -7,4 +7,5 @@ pub mod Made
 pub mod Unchanged
 pub mod Examples
 pub mod Pushed
+pub mod Putting
 pub mod SameCalls

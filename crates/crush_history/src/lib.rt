@@ -16,6 +16,7 @@ mod history;
 mod law;
 mod making;
 mod push;
+mod put;
 mod refused;
 mod script;
 
@@ -27,6 +28,7 @@ pub use entry::{Entry, Slip, count_changes, is_change};
 pub use history::{history_text, operator_name};
 pub use law::{equal_is_same, runs_keep_lawful, same_count_is_same_table, turns_are_history};
 pub use making::make_call;
-pub use push::{push_edit, push_entry, write_entry};
+pub use push::{push_edit, push_entry};
+pub use put::write_entry;
 pub use refused::{count_refused, is_refused, refused_text};
 pub use script::Script;

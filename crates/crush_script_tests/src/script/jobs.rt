@@ -59,7 +59,7 @@ fn lines_of(
         let reply = make_call(map, 0, call).expect(rt, "no memory");
         number = number.saturating_add(1);
         let operator = script.name.as_str();
-        write_entry(rt.alloc(), number, operator, call, reply, &mut lines).expect(rt, "no line");
+        write_entry(number, operator, call, reply, &mut lines).expect(rt, "no line");
     }
     lines
 }
