@@ -6,7 +6,8 @@ use Rattle.crush_edits.specs.declared.edit.Edit.{Edit}
 use Rattle.crush_edits.specs.declared.edit.Edit.TheVariants.{Place, Move, Swap, Reweight, ReweightSubtree, Remove, AddBucket, Rename, SetClass, RemoveClass}
 use Rattle.crush_units.specs.ExactWeight.{exact_text}
 use Rattle.crush_edits.specs.EditText.{edit_text, pairs_text}
-use Rattle.crush_edits.specs.Keyword.{placing_word}
+use Rattle.crush_edits.specs.declared.keyword.Keyword.TheVariants as key
+use Rattle.crush_edits.specs.Keyword.{keyword_word, placing_word}
 
 -- the option ` --yes-i-really-mean-it` for a swap, which Ceph requires if the two buckets have different parents; no text for any other edit
 abbrev pub assent : Edit → List ℕ
@@ -56,8 +57,8 @@ abbrev pub ceph_words : Edit → List ℕ
 ceph_words (Place how device name weight at) = name_and_exact (placing_word how) name weight ++ pairs_text at
 ceph_words (Move name at) = edit_text (Move name at)
 ceph_words (Swap a b) = edit_text (Swap a b)
-ceph_words (Reweight name weight) = name_and_exact (codes "reweight") name weight
-ceph_words (ReweightSubtree name weight) = name_and_exact (codes "reweight-subtree") name weight
+ceph_words (Reweight name weight) = name_and_exact (keyword_word key.Reweight) name weight
+ceph_words (ReweightSubtree name weight) = name_and_exact (keyword_word key.ReweightSubtree) name weight
 ceph_words (Remove name) = edit_text (Remove name)
 ceph_words (AddBucket name kind) = edit_text (AddBucket name kind)
 ceph_words (Rename from to) = edit_text (Rename from to)

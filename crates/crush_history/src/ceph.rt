@@ -5,7 +5,7 @@ ghost use Rattle.crush_edits.specs.EditText.{pairs_text};
 ghost use Rattle.crush_history.specs.Ceph.{assent, ceph_head, ceph_heading, ceph_line, ceph_words, has_dash, has_dashed_type, is_dashed, name_and_exact};
 
 use crate::push::push_edit;
-use crush_edits::{Edit, Location, Pair};
+use crush_edits::{Edit, Keyword, Location, Pair};
 use crush_units::{Name, Weight, put_all};
 use itoa::Buffer;
 use std::alloc::{AllocError, Global};
@@ -79,9 +79,16 @@ fn push_words(edit: &Edit, text: &mut Vec<u8>) -> Result<(), AllocError>
             at,
             ..
         } => push_placing(how.word().as_bytes(), name, *weight, at, text),
-        Edit::Reweight { name, weight } => push_weighing(b"reweight", name, *weight, text),
+        Edit::Reweight { name, weight } => {
+            push_weighing(Keyword::Reweight.word().as_bytes(), name, *weight, text)
+        }
         Edit::ReweightSubtree { name, weight } => {
-            push_weighing(b"reweight-subtree", name, *weight, text)
+            push_weighing(
+                Keyword::ReweightSubtree.word().as_bytes(),
+                name,
+                *weight,
+                text,
+            )
         }
         Edit::Move { .. }
         | Edit::Swap { .. }
