@@ -585,7 +585,9 @@ def is_near(name, other):
     """Returns whether two names are similar.
 
     They are similar if one of them has one letter more or one different letter, if two neighbouring letters are
-    exchanged, or if only upper and lower case differ."""
+    exchanged, if only upper and lower case differ, or if `other` is `osd.` followed by `name`."""
+    if other == f"osd.{name}":
+        return True
     short, long = sorted((name, other), key=len)
     if len(long) == len(short):
         return sum(a != b for a, b in zip(long, short)) <= 1 or is_exchanged(long, short) or long.lower() == short.lower()

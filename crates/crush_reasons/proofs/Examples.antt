@@ -108,12 +108,12 @@ explained : explained_text setting example (codes "a" ∷ []) 1 (
 unfolding explained_behind line_head reply_text items_said table_after_edits digits
 explained = refl
 
--- names that differ by a missing letter, by an extra letter, by another letter, by two exchanged letters, or in upper and lower case; and names that aren't similar
-nearly : (is_near (codes "stor1") (codes "stor01") ≡ true) × (is_near (codes "osd.22") (codes "osd.2") ≡ true) × (is_near (codes "h9") (codes "h1") ≡ true) × (is_near (codes "hots1") (codes "host1") ≡ true) × (is_near (codes "DEFAULT") (codes "default") ≡ true)
-nearly = (refl, refl, refl, refl, refl)
+-- names that differ by a missing letter, by an extra letter, by another letter, by two exchanged letters, or in upper and lower case; the number of a device and the name of this device; and names that aren't similar
+nearly : (is_near (codes "stor1") (codes "stor01") ≡ true) × (is_near (codes "osd.22") (codes "osd.2") ≡ true) × (is_near (codes "h9") (codes "h1") ≡ true) × (is_near (codes "hots1") (codes "host1") ≡ true) × (is_near (codes "DEFAULT") (codes "default") ≡ true) × (is_near (codes "0") (codes "osd.0") ≡ true)
+nearly = (refl, refl, refl, refl, refl, refl)
 
-far : (is_near (codes "h9") (codes "h12") ≡ false) × (is_near (codes "abc") (codes "cab") ≡ false) × (is_near (codes "a") (codes "abc") ≡ false)
-far = (refl, refl, refl)
+far : (is_near (codes "h9") (codes "h12") ≡ false) × (is_near (codes "abc") (codes "cab") ≡ false) × (is_near (codes "a") (codes "abc") ≡ false) × (is_near (codes "1") (codes "osd.0") ≡ false) × (is_near (codes "osd.0") (codes "0") ≡ false)
+far = (refl, refl, refl, refl, refl)
 
 -- two names are similar, and the reason suggests the first of them in the order of the tree; and a name to which no name is similar
 two_near : edit_reason true setting example (Remove (codes "h9")) NoSuchItem ≡ codes "h9 doesn't exist: did you mean h1?"

@@ -1,5 +1,6 @@
 -- Names that are similar to one another.
-use Rattle.std.specs.Prelude.{ℕ, ◌+◌, ◌==◌, ◌&&◌, ◌||◌, List, [], ◌∷◌, Option, None, Bool, false, bytes_eq, drop, find, if◌then◌else◌}
+use Rattle.std.specs.Prelude.{ℕ, ◌+◌, ◌==◌, ◌&&◌, ◌||◌, List, [], ◌∷◌, Option, None, Bool, false, bytes_eq, codes, drop, find, if◌then◌else◌, nat_eq}
+use Rattle.std.specs.List.{starts_with}
 use Rattle.std.specs.Option.{option_map}
 use Rattle.std.specs.Str.{str_eq_ignore_ascii_case}
 use Rattle.crush_model.specs.Table.{Row}
@@ -30,9 +31,13 @@ is_swapped a b =
     same_heads (drop (shared a b) a) (drop (shared a b + 1) b) && same_heads (drop (shared a b + 1) a) (drop (shared a b) b)
     && bytes_eq (drop (shared a b + 2) a) (drop (shared a b + 2) b)
 
--- SIMILAR: at most one byte differs, or two neighbouring bytes are exchanged, or the names differ only in upper and lower case
+-- A NUMBER IN PLACE OF A DEVICE'S NAME: the second name is `osd.` followed by the first name, as `osd.0` is for `0`
+abbrev pub is_numbered : List ℕ → List ℕ → Bool
+is_numbered a b = starts_with nat_eq b (codes "osd.") && bytes_eq (drop 4 b) a
+
+-- SIMILAR: at most one byte differs, or two neighbouring bytes are exchanged, or the names differ only in upper and lower case, or the second name is `osd.` followed by the first name
 abbrev pub is_near : List ℕ → List ℕ → Bool
-is_near a b = is_one_off a b || (is_swapped a b || str_eq_ignore_ascii_case a b)
+is_near a b = is_one_off a b || (is_swapped a b || (str_eq_ignore_ascii_case a b || is_numbered a b))
 
 -- the first name of these items that is similar to the name n
 abbrev pub first_near : List ℕ → List WalkStepData → Option (List ℕ)

@@ -1,6 +1,7 @@
 //! Finds an item or a type of the map whose name is similar to a name that the map doesn't have.
 //! Two names are similar if at most one byte differs, one byte is missing or extra, or two
-//! neighbouring bytes are exchanged, or if the names differ only in upper and lower case.
+//! neighbouring bytes are exchanged, or if the names differ only in upper and lower case. A name is
+//! also similar to another name if it is `osd.` followed by the other name, as `osd.0` is for `0`.
 
 ghost use Rattle.std.specs.Prelude.{◌≡◌, ◌≤◌, ◌<◌, List, IfOk, IsTrue, drop, length, map as each};
 ghost use Rattle.std.specs.Option.{option_map};
@@ -8,7 +9,7 @@ ghost use Rattle.std.specs.Str.{str_eq_ignore_ascii_case};
 ghost use Rattle.crush_model.specs.Stands.{Stands};
 ghost use Rattle.crush_model.specs.Table.{Row};
 ghost use Rattle.crush_print.specs.WalkStep.{walk_step_data};
-ghost use Rattle.crush_reasons.specs.Near.{first_near, first_near_kind, is_near, is_one_off, is_swapped, near_if, near_kind_if, near_name, same_heads, shared};
+ghost use Rattle.crush_reasons.specs.Near.{first_near, first_near_kind, is_near, is_numbered, is_one_off, is_swapped, near_if, near_kind_if, near_name, same_heads, shared};
 
 use crate::words::from_place;
 use crush_map::{CrushMap, Setting};
@@ -77,12 +78,20 @@ fn is_other_case(a: &str, b: &str) -> bool
     a.eq_ignore_ascii_case(b)
 }
 
+/// Whether the second name is `osd.` followed by the first name.
+fn is_numbered(a: &[u8], b: &[u8]) -> bool
+    ensures { result ≡ is_numbered a.now b.now }
+{
+    b.starts_with(b"osd.") && from_place(4, b) == a
+}
+
 fn is_near(a: &str, b: &str) -> bool
     ensures { result ≡ is_near a.now b.now }
 {
     is_one_off(a.as_bytes(), b.as_bytes())
         || is_swapped(a.as_bytes(), b.as_bytes())
         || is_other_case(a, b)
+        || is_numbered(a.as_bytes(), b.as_bytes())
 }
 
 fn name_of<'a>(step: &WalkStep<'a, Global>) -> &'a str
