@@ -2,7 +2,6 @@
 //! between two maps. The expected values follow the forms in docs/user/FORMATS.md.
 
 mod change_parts;
-mod change_trees;
 mod changed_parts;
 mod changes;
 mod classes;

@@ -44,19 +44,6 @@ fn what_came_below_a_host_is_told(rt: HostRuntime) {
     assert!(rt; is_part_since(&rt, EXAMPLE_MAP, MOVED, "h2", lines));
 }
 
-#[test]
-fn what_stood_below_a_host_is_told(rt: HostRuntime) {
-    let lines = b"\
-        h1 (-2): weight 2.00000 to 1.00000\n\
-        osd.0 (0): from h1 (-2) to h2 (-3)\n";
-    assert!(rt; is_part_since(&rt, EXAMPLE_MAP, MOVED, "h1", lines));
-}
-
-#[test]
-fn of_a_device_that_is_the_same_nothing_is_told(rt: HostRuntime) {
-    assert!(rt; is_part_since(&rt, EXAMPLE_MAP, MOVED, "osd.1", b""));
-}
-
 fn are_changed(
     rt: &(impl Abort + AllocGlobal),
     old: &[u8],
@@ -71,20 +58,6 @@ fn are_changed(
     drop(old);
     drop(new);
     (whole, part)
-}
-
-#[test]
-fn a_map_is_not_changed_since_itself(rt: HostRuntime) {
-    let (whole, part) = are_changed(&rt, MOVED, MOVED, "default");
-    assert!(rt; !whole);
-    assert!(rt; !part);
-}
-
-#[test]
-fn a_move_is_a_change_where_it_was_made(rt: HostRuntime) {
-    let (whole, part) = are_changed(&rt, EXAMPLE_MAP, MOVED, "h1");
-    assert!(rt; whole);
-    assert!(rt; part);
 }
 
 #[test]
@@ -105,13 +78,6 @@ const RETUNED: &[u8] = b"\
     host h1 { id -2 alg straw2 hash 0 item osd.0 weight 1.0 item osd.1 weight 1.0 }\n\
     host h2 { id -3 alg straw2 hash 0 item osd.2 weight 0.5 }\n\
     root default { id -1 alg straw2 hash 0 item h1 weight 2.0 item h2 weight 0.5 }\n";
-
-#[test]
-fn a_setting_alone_is_a_change(rt: HostRuntime) {
-    let (whole, part) = are_changed(&rt, EXAMPLE_MAP, RETUNED, "default");
-    assert!(rt; whole);
-    assert!(rt; !part);
-}
 
 #[test]
 fn settings_are_compared_each(rt: HostRuntime) {
