@@ -51,32 +51,12 @@ fn is_tree(
 }
 
 #[test]
-fn only_devices_of_the_class_count(rt: HostRuntime) {
-    let tree = b"\
-        ID  CLASS  WEIGHT   TYPE NAME\n\
-        -1         1.50000  root default\n\
-        -4         1.00000      rack r1\n\
-        -2         1.00000          host h1\n \
-        0    ssd  1.00000              osd.0\n\
-        -3         0.50000      host h2\n \
-        2    ssd  0.50000          osd.2\n \
-        4    ssd  0.00000  osd.4\n";
-    assert!(rt; is_tree(&rt, "ssd", "", "", tree));
-}
-
-#[test]
 fn a_rack_counts_the_class_below_its_hosts(rt: HostRuntime) {
     let tree = b"\
         ID  CLASS  WEIGHT   TYPE NAME\n\
         -4         2.00000  rack r1\n\
         -2         2.00000      host h1\n";
     assert!(rt; is_tree(&rt, "hdd", "r1", "host", tree));
-}
-
-#[test]
-fn a_host_without_the_class_has_no_line(rt: HostRuntime) {
-    let tree = b"ID  CLASS  WEIGHT  TYPE NAME\n";
-    assert!(rt; is_tree(&rt, "hdd", "h2", "", tree));
 }
 
 #[test]
@@ -149,12 +129,11 @@ fn are_changes(
     rt: &(impl Abort + AllocGlobal),
     maps: (&[u8], &[u8]),
     class: &str,
-    under: &str,
     tree: &[u8],
 ) -> bool {
     let old = map_of(rt, maps.0);
     let new = map_of(rt, maps.1);
-    let part = part_of(&new, under, "");
+    let part = TreePart::whole();
     let mut told = Vec::new(rt.alloc());
     write_changes_of_class(rt.alloc(), &old, &new, part, class, &mut told).expect(rt, "no tree");
     let is = told.as_slice() == tree;
@@ -176,56 +155,5 @@ fn in_a_tree_of_changes_the_devices_of_one_class_count(rt: HostRuntime) {
         0    ssd        -  1.00000          osd.0 (from h1)\n\
         total 8.50000 to 8.50000\n\
         0 made, 0 removed, 0 renamed, 1 moved, 3 of other weight, 0 of other class\n";
-    assert!(rt; are_changes(&rt, (CLASSED, MOVED), "ssd", "", tree));
-}
-
-#[test]
-fn changes_below_an_item_without_the_class_are_headings_alone(rt: HostRuntime) {
-    let tree = b"ID  CLASS  WAS  WEIGHT  TYPE NAME\n";
-    assert!(rt; are_changes(&rt, (CLASSED, MOVED), "hdd", "osd.0", tree));
-}
-
-/// A map in which the host h1 is in the rack r1. Its only device has the class `ssd`.
-const IN_R1: &[u8] = b"\
-    device 0 osd.0 class ssd\n\
-    type 0 osd\n\
-    type 1 host\n\
-    type 3 rack\n\
-    type 11 root\n\
-    host h1 { id -4 alg straw2 hash 0 item osd.0 weight 1.0 }\n\
-    rack r1 { id -2 alg straw2 hash 0 item h1 weight 1.0 }\n\
-    rack r2 { id -3 alg straw2 hash 0 }\n\
-    root default { id -1 alg straw2 hash 0 item r1 weight 1.0 item r2 weight 0.0 }\n";
-
-/// The map `IN_R1` after the host has moved to the rack r2 and its device has got the class `hdd`.
-const IN_R2: &[u8] = b"\
-    device 0 osd.0 class hdd\n\
-    type 0 osd\n\
-    type 1 host\n\
-    type 3 rack\n\
-    type 11 root\n\
-    host h1 { id -4 alg straw2 hash 0 item osd.0 weight 1.0 }\n\
-    rack r1 { id -2 alg straw2 hash 0 }\n\
-    rack r2 { id -3 alg straw2 hash 0 item h1 weight 1.0 }\n\
-    root default { id -1 alg straw2 hash 0 item r1 weight 0.0 item r2 weight 1.0 }\n";
-
-/// Tests the tree of changes for the class ssd. In both maps, no device below the rack r2 has this
-/// class. But the tree has a row for r2, because the host h1 is now in r2, and its device had this
-/// class before.
-#[test]
-fn a_row_has_the_rows_of_all_buckets_above_it(rt: HostRuntime) {
-    let tree = b"\
-        ID  CLASS  WAS      WEIGHT   TYPE NAME\n\
-        -1         1.00000  0.00000  root default\n\
-        -2         1.00000  0.00000      rack r1\n\
-        -4         1.00000        -          host h1\n\
-        -3         0.00000  0.00000      rack r2\n\
-        -4               -  0.00000          host h1 (from r1)\n \
-        0    hdd  1.00000  0.00000              osd.0 (class ssd to hdd)\n\
-        class hdd weighed 0.00000, weighs 1.00000\n\
-        class ssd weighed 1.00000, weighs 0.00000\n\
-        class hdd is new, and no rule takes it\n\
-        total 1.00000 to 1.00000\n\
-        0 made, 0 removed, 0 renamed, 1 moved, 2 of other weight, 1 of other class\n";
-    assert!(rt; are_changes(&rt, (IN_R1, IN_R2), "ssd", "", tree));
+    assert!(rt; are_changes(&rt, (CLASSED, MOVED), "ssd", tree));
 }

@@ -35,44 +35,6 @@ fn the_example_map_has_its_tree(rt: HostRuntime) {
     assert!(rt; is_tree(&rt, EXAMPLE_MAP, tree));
 }
 
-#[test]
-fn an_empty_map_has_headings_alone(rt: HostRuntime) {
-    assert!(rt; is_tree(&rt, b"", b"ID  CLASS  WEIGHT  TYPE NAME\n"));
-}
-
-const NEST: &[u8] = b"\
-    type 1 a\n\
-    a b1 { id -1 alg straw2 }\n\
-    a b2 { id -2 alg straw2 item b1 }\n\
-    a b3 { id -3 alg straw2 item b2 }\n\
-    a b4 { id -4 alg straw2 item b3 }\n\
-    a b5 { id -5 alg straw2 item b4 }\n\
-    a b6 { id -6 alg straw2 item b5 }\n\
-    a b7 { id -7 alg straw2 item b6 }\n\
-    a b8 { id -8 alg straw2 item b7 }\n\
-    a b9 { id -9 alg straw2 item b8 }\n\
-    a b10 { id -10 alg straw2 item b9 }\n\
-    a b11 { id -11 alg straw2 item b10 }\n\
-    a b12 { id -12 alg straw2 item b11 }\n\
-    a b13 { id -13 alg straw2 item b12 }\n\
-    a b14 { id -14 alg straw2 item b13 }\n\
-    a b15 { id -15 alg straw2 item b14 }\n\
-    a b16 { id -16 alg straw2 item b15 }\n\
-    a b17 { id -17 alg straw2 item b16 }\n\
-    a b18 { id -18 alg straw2 item b17 }\n";
-
-const LOWEST: &[u8] = b"\n \
-    -2         0.00000                                                                  a b2\n \
-    -1         0.00000                                                                  a b1\n";
-
-#[test]
-fn no_name_stands_behind_more_than_64_spaces(rt: HostRuntime) {
-    let map = map_of(&rt, NEST);
-    let ends = tree_of(&rt, &map).as_slice().ends_with(LOWEST);
-    drop(map);
-    assert!(rt; ends);
-}
-
 fn walked(rt: &(impl Abort + AllocGlobal), map: &CrushMap<Global>) -> usize {
     walk(rt.alloc(), map).expect(rt, "no memory").len()
 }
