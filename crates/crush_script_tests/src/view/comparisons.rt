@@ -167,48 +167,6 @@ fn pairs_by_names_are_in_the_order_of_the_new_tree(rt: HostRuntime) {
 }
 
 #[test]
-fn devices_of_other_ids_are_not_one_in_one_cluster(rt: HostRuntime) {
-    let old = map_of(&rt, EXAMPLE_MAP);
-    let new = map_of(&rt, OTHER_CLUSTER);
-    let both = Comparison::by_names(rt.alloc(), Devices::ById, &old, &new).expect(&rt, "no memory");
-    let rows: [(&[u8], &[u8]); 8] = [
-        (b"default", b"same"),
-        (b"h2", b"same"),
-        (b"osd.3", b"made"),
-        (b"h1", b"same"),
-        (b"osd.0", b"made"),
-        (b"osd.1", b"weight"),
-        (b"osd.0", b"removed"),
-        (b"osd.2", b"removed"),
-    ];
-    let are = are_pairs(&both, Report::Remaining, &rows);
-    drop(both);
-    drop(new);
-    drop(old);
-    assert!(rt; are);
-}
-
-#[test]
-fn types_and_places_are_compared_by_name(rt: HostRuntime) {
-    let old = map_of(&rt, EXAMPLE_MAP);
-    let new = map_of(&rt, MOVED_MAP);
-    let both = Comparison::by_names(rt.alloc(), Devices::ById, &old, &new).expect(&rt, "no memory");
-    let rows: [(&[u8], &[u8]); 6] = [
-        (b"default", b"same"),
-        (b"h1", b"same"),
-        (b"osd.0", b"same"),
-        (b"h2", b"type"),
-        (b"osd.2", b"same"),
-        (b"osd.1", b"place"),
-    ];
-    let are = are_pairs(&both, Report::Remaining, &rows);
-    drop(both);
-    drop(new);
-    drop(old);
-    assert!(rt; are);
-}
-
-#[test]
 fn a_part_has_what_is_below_its_name_in_either_map(rt: HostRuntime) {
     let old = map_of(&rt, EXAMPLE_MAP);
     let new = map_of(&rt, MOVED_MAP);

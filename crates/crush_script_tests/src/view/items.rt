@@ -38,24 +38,6 @@ fn are_rows(items: &Items<'_, Global>, rows: &[Row<'_>]) -> bool {
             .all(|(item, row)| is_row(item, row))
 }
 
-#[test]
-fn the_example_map_has_its_items(rt: HostRuntime) {
-    let map = map_of(&rt, EXAMPLE_MAP);
-    let items = items_of(&rt, &map);
-    let rows: [Row<'_>; 6] = [
-        (b"default", 0, b""),
-        (b"h1", 1, b"default"),
-        (b"osd.0", 2, b"h1"),
-        (b"osd.1", 2, b"h1"),
-        (b"h2", 1, b"default"),
-        (b"osd.2", 2, b"h2"),
-    ];
-    let are = are_rows(&items, &rows);
-    drop(items);
-    drop(map);
-    assert!(rt; are);
-}
-
 /// A map with two roots and two devices that are in no bucket. The root that comes first in the
 /// text has the id that is farther from 0.
 const TWO_ROOTS: &[u8] = b"\
