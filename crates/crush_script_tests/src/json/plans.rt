@@ -45,8 +45,6 @@ const PLAN: &[u8] = b"\
     {\"ids\":[\"osd.0\"],\"prefix\":\"osd crush rm-device-class\"}],\
     \"stays\":[\"osd.1: class hdd, wanted (none)\",\"tunables differ\"]}\n";
 
-const NO_PLAN: &[u8] = b"{\"aside\":{\"class_ids\":1,\"ids\":2},\"plan\":[],\"stays\":[]}\n";
-
 fn edits_of(rt: &(impl Abort + AllocGlobal), calls: &[Call]) -> Vec<Edit> {
     let mut edits = Vec::new(rt.alloc());
     for call in calls {
@@ -103,9 +101,4 @@ fn each_command_has_the_keys_of_ceph(rt: HostRuntime) {
     let job = read_job(rt.alloc(), Hashing::plain(), COMMANDS).expect(&rt, "no job");
     assert!(rt; is_plan_of(&rt, &job, REST, PLAN));
     drop(job);
-}
-
-#[test]
-fn nothing_to_do_is_an_empty_plan(rt: HostRuntime) {
-    assert!(rt; is_plan(&rt, &[], &[], NO_PLAN));
 }
