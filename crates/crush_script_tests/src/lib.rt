@@ -28,4 +28,6 @@ mod reasons;
 #[cfg(test)]
 mod script;
 #[cfg(test)]
+mod texts;
+#[cfg(test)]
 mod view;

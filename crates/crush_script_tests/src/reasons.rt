@@ -5,6 +5,7 @@ ghost use Rattle.std.specs.Prelude.{◌<◌, length};
 ghost use Rattle.crush_history.specs.Entries.{AreOf};
 
 use crate::histories::entries_of;
+use crate::texts::assert_text;
 use crush_history::{Entry, Script};
 use crush_map::{CrushMap, Hashing};
 use crush_reasons::{
@@ -31,60 +32,42 @@ fn fault_of(rt: &(impl Abort + AllocGlobal), bytes: &[u8]) -> JobFault {
     }
 }
 
-fn is_listed(
-    rt: &(impl Abort + AllocGlobal),
-    origin: Origin<'_>,
-    bytes: &[u8],
-    told: &[u8],
-) -> bool {
-    if bytes.len() > 10_000 {
-        return false;
-    }
+fn assert_listed(rt: &(impl Abort + AllocGlobal), origin: Origin<'_>, bytes: &[u8], told: &[u8]) {
+    assert!(rt; bytes.len() <= 10_000);
     let fault = fault_of(rt, bytes);
     let text = fault_text(rt.alloc(), origin, bytes, fault).expect(rt, "no memory");
-    text.as_slice() == told
+    assert_text(rt, text.as_slice(), told);
 }
 
 #[test]
 fn a_fault_is_told_with_its_place(rt: HostRuntime) {
-    assert!(rt;
-        is_listed(
-            &rt,
-            Origin {
-                name: b"",
-                before: 0
-            },
-            MISSPELT,
-            b"  line 24, column 1\n    hots h2 {\n    ^\n  no type named `hots` is declared above\n"
-        )
+    assert_listed(
+        &rt,
+        Origin {
+            name: b"",
+            before: 0,
+        },
+        MISSPELT,
+        b"  line 24, column 1\n    hots h2 {\n    ^\n  no type named `hots` is declared above\n",
     );
-    assert!(rt;
-        is_listed(
-            &rt,
-            Origin {
-                name: b"alice.txt",
-                before: 0
-            },
-            b"# nothing\n%operator alice\nfly\tx\n",
-            b"  alice.txt line 3, column 1\n    fly x\n    ^\n  `fly` is not a command: see --help\n"
-        )
+    assert_listed(
+        &rt,
+        Origin {
+            name: b"alice.txt",
+            before: 0,
+        },
+        b"# nothing\n%operator alice\nfly\tx\n",
+        b"  alice.txt line 3, column 1\n    fly x\n    ^\n  `fly` is not a command: see --help\n",
     );
 }
 
-fn has_place(
-    rt: &(impl Abort + AllocGlobal),
-    origin: Origin<'_>,
-    bytes: &[u8],
-    told: &[u8],
-) -> bool {
-    if bytes.len() > 10_000 {
-        return false;
-    }
+fn assert_place(rt: &(impl Abort + AllocGlobal), origin: Origin<'_>, bytes: &[u8], told: &[u8]) {
+    assert!(rt; bytes.len() <= 10_000);
     let JobFault::Text(fault) = fault_of(rt, bytes) else {
-        return false;
+        panic!(rt; "no fault of a text")
     };
     let text = flaw_place_text(rt.alloc(), origin, bytes, fault).expect(rt, "no memory");
-    text.as_slice() == told
+    assert_text(rt, text.as_slice(), told);
 }
 
 #[test]
@@ -93,13 +76,11 @@ fn the_place_of_a_flaw_is_told_alone(rt: HostRuntime) {
         name: b"m",
         before: 0,
     };
-    assert!(rt;
-        has_place(
-            &rt,
-            origin,
-            MISSPELT,
-            b"  m line 24, column 1\n    hots h2 {\n    ^\n"
-        )
+    assert_place(
+        &rt,
+        origin,
+        MISSPELT,
+        b"  m line 24, column 1\n    hots h2 {\n    ^\n",
     );
 }
 
@@ -113,29 +94,23 @@ fn what_does_not_fit_is_told(rt: HostRuntime) {
         name: b"",
         before: 0,
     };
-    assert!(rt;
-        is_listed(
-            &rt,
-            origin,
-            b"%operator a\nreweight osd.0 1,5\n",
-            b"  line 2, column 16\n    reweight osd.0 1,5\n                   ^\n  reweight NAME WEIGHT: `1,5` is not a weight: did you mean 1.5?\n"
-        )
+    assert_listed(
+        &rt,
+        origin,
+        b"%operator a\nreweight osd.0 1,5\n",
+        b"  line 2, column 16\n    reweight osd.0 1,5\n                   ^\n  reweight NAME WEIGHT: `1,5` is not a weight: did you mean 1.5?\n",
     );
-    assert!(rt;
-        is_listed(
-            &rt,
-            origin,
-            CUT,
-            b"  line 3, column 5\n     id -2\n        ^\n  host h1, which begins at line 2, is not closed\n"
-        )
+    assert_listed(
+        &rt,
+        origin,
+        CUT,
+        b"  line 3, column 5\n     id -2\n        ^\n  host h1, which begins at line 2, is not closed\n",
     );
-    assert!(rt;
-        is_listed(
-            &rt,
-            origin,
-            ALGO,
-            b"  line 4, column 2\n     algo straw2\n     ^\n  unexpected word: expected `id` or `alg` (in host h1, which begins at line 2)\n"
-        )
+    assert_listed(
+        &rt,
+        origin,
+        ALGO,
+        b"  line 4, column 2\n     algo straw2\n     ^\n  unexpected word: expected `id` or `alg` (in host h1, which begins at line 2)\n",
     );
 }
 
@@ -148,21 +123,17 @@ fn a_misspelt_class_and_a_bucket_below_are_told(rt: HostRuntime) {
         name: b"",
         before: 0,
     };
-    assert!(rt;
-        is_listed(
-            &rt,
-            origin,
-            b"device 0 osd.0 clas ssd\n",
-            b"  line 1, column 16\n    device 0 osd.0 clas ssd\n                   ^\n  no type named `clas` is declared above; did you mean `class`?\n"
-        )
+    assert_listed(
+        &rt,
+        origin,
+        b"device 0 osd.0 clas ssd\n",
+        b"  line 1, column 16\n    device 0 osd.0 clas ssd\n                   ^\n  no type named `clas` is declared above; did you mean `class`?\n",
     );
-    assert!(rt;
-        is_listed(
-            &rt,
-            origin,
-            BELOW,
-            b"  line 6, column 6\n    item h1\n         ^\n  `h1` is defined below, at line 8: move that bucket up\n"
-        )
+    assert_listed(
+        &rt,
+        origin,
+        BELOW,
+        b"  line 6, column 6\n    item h1\n         ^\n  `h1` is defined below, at line 8: move that bucket up\n",
     );
 }
 
@@ -176,13 +147,11 @@ fn a_taken_bucket_below_is_told(rt: HostRuntime) {
         name: b"",
         before: 0,
     };
-    assert!(rt;
-        is_listed(
-            &rt,
-            origin,
-            TAKEN_BELOW,
-            b"  line 5, column 11\n    step take default\n              ^\n  `default` is defined below, at line 8: move that bucket up\n"
-        )
+    assert_listed(
+        &rt,
+        origin,
+        TAKEN_BELOW,
+        b"  line 5, column 11\n    step take default\n              ^\n  `default` is defined below, at line 8: move that bucket up\n",
     );
 }
 
@@ -192,29 +161,23 @@ fn texts_that_are_no_maps_are_named(rt: HostRuntime) {
         name: b"",
         before: 0,
     };
-    assert!(rt;
-        is_listed(
-            &rt,
-            origin,
-            b"\xEF\xBB\xBFtype 1 host\n",
-            b"  line 1, column 1\n    ???type 1 host\n    ^\n  the text begins with a byte order mark: save it without one\n"
-        )
+    assert_listed(
+        &rt,
+        origin,
+        b"\xEF\xBB\xBFtype 1 host\n",
+        b"  line 1, column 1\n    ???type 1 host\n    ^\n  the text begins with a byte order mark: save it without one\n",
     );
-    assert!(rt;
-        is_listed(
-            &rt,
-            origin,
-            b"\x1F\x8B\x08\n",
-            b"  line 1, column 1\n    ???\n    ^\n  this file is compressed with gzip: unpack it first\n"
-        )
+    assert_listed(
+        &rt,
+        origin,
+        b"\x1F\x8B\x08\n",
+        b"  line 1, column 1\n    ???\n    ^\n  this file is compressed with gzip: unpack it first\n",
     );
-    assert!(rt;
-        is_listed(
-            &rt,
-            origin,
-            b"ID  CLASS  WEIGHT\n",
-            b"  line 1, column 1\n    ID  CLASS  WEIGHT\n    ^\n  this looks like the output of `ceph osd tree`: a text map is the output of `crushtool -d`\n"
-        )
+    assert_listed(
+        &rt,
+        origin,
+        b"ID  CLASS  WEIGHT\n",
+        b"  line 1, column 1\n    ID  CLASS  WEIGHT\n    ^\n  this looks like the output of `ceph osd tree`: a text map is the output of `crushtool -d`\n",
     );
 }
 
@@ -224,45 +187,35 @@ fn numbers_and_words_that_are_expected_are_told(rt: HostRuntime) {
         name: b"",
         before: 0,
     };
-    assert!(rt;
-        is_listed(
-            &rt,
-            origin,
-            b"tunable a 4294967296\n",
-            b"  line 1, column 11\n    tunable a 4294967296\n              ^\n  number out of range: 0 to 4294967295\n"
-        )
+    assert_listed(
+        &rt,
+        origin,
+        b"tunable a 4294967296\n",
+        b"  line 1, column 11\n    tunable a 4294967296\n              ^\n  number out of range: 0 to 4294967295\n",
     );
-    assert!(rt;
-        is_listed(
-            &rt,
-            origin,
-            b"tunable a -1\n",
-            b"  line 1, column 11\n    tunable a -1\n              ^\n  number out of range: 0 to 4294967295\n"
-        )
+    assert_listed(
+        &rt,
+        origin,
+        b"tunable a -1\n",
+        b"  line 1, column 11\n    tunable a -1\n              ^\n  number out of range: 0 to 4294967295\n",
     );
-    assert!(rt;
-        is_listed(
-            &rt,
-            origin,
-            b"type x host\n",
-            b"  line 1, column 6\n    type x host\n         ^\n  expected a whole number from 0 to 65535\n"
-        )
+    assert_listed(
+        &rt,
+        origin,
+        b"type x host\n",
+        b"  line 1, column 6\n    type x host\n         ^\n  expected a whole number from 0 to 65535\n",
     );
-    assert!(rt;
-        is_listed(
-            &rt,
-            origin,
-            b"type 1 host\nhost h1 id",
-            b"  line 2, column 9\n    host h1 id\n            ^\n  unexpected word: expected `{`\n"
-        )
+    assert_listed(
+        &rt,
+        origin,
+        b"type 1 host\nhost h1 id",
+        b"  line 2, column 9\n    host h1 id\n            ^\n  unexpected word: expected `{`\n",
     );
-    assert!(rt;
-        is_listed(
-            &rt,
-            origin,
-            b"device 0 osd.0\ndevice 1",
-            b"  line 2, column 8\n    device 1\n           ^\n  the text ends too early: expected a name\n"
-        )
+    assert_listed(
+        &rt,
+        origin,
+        b"device 0 osd.0\ndevice 1",
+        b"  line 2, column 8\n    device 1\n           ^\n  the text ends too early: expected a name\n",
     );
 }
 
@@ -398,28 +351,28 @@ fn told_of(
     joined(rt, &[told.as_slice(), b"  ", reason, b"\n"])
 }
 
-fn is_line_told(
+fn assert_line_told(
     rt: &(impl Abort + AllocGlobal),
     line: &[u8],
     column: Option<u64>,
     reason: &[u8],
-) -> bool {
+) {
     let origin = Origin {
         name: b"",
         before: 0,
     };
     let job = joined(rt, &[b"%operator a\n", line, b"\n"]);
     let told = told_of(rt, line, column, reason);
-    job.len() <= 10_000 && is_listed(rt, origin, job.as_slice(), told.as_slice())
+    assert_listed(rt, origin, job.as_slice(), told.as_slice());
 }
 
 #[test]
 fn a_word_that_does_not_fit_is_told(rt: HostRuntime) {
     for (line, reason) in LINES {
-        assert!(&rt; is_line_told(&rt, line, None, reason));
+        assert_line_told(&rt, line, None, reason);
     }
     for (line, column, reason) in MARKED {
-        assert!(&rt; is_line_told(&rt, line, Some(*column), reason));
+        assert_line_told(&rt, line, Some(*column), reason);
     }
 }
 
@@ -432,13 +385,11 @@ fn a_negative_weight_is_told_as_that_of_a_heavy_bucket(rt: HostRuntime) {
         name: b"",
         before: 0,
     };
-    assert!(rt;
-        is_listed(
-            &rt,
-            origin,
-            NEGATIVE,
-            b"  line 10, column 16\n    item h1 weight -32767.00000\n                   ^\n  crushtool -d prints a bucket's weight of 32768 and more as a negative number: write 0, and the sum of the bucket's items takes its place\n"
-        )
+    assert_listed(
+        &rt,
+        origin,
+        NEGATIVE,
+        b"  line 10, column 16\n    item h1 weight -32767.00000\n                   ^\n  crushtool -d prints a bucket's weight of 32768 and more as a negative number: write 0, and the sum of the bucket's items takes its place\n",
     );
 }
 
@@ -459,13 +410,11 @@ fn a_name_with_an_escape_is_told_without_it(rt: HostRuntime) {
         name: b"a\x1b[31m\t.txt",
         before: 0,
     };
-    assert!(rt;
-        is_listed(
-            &rt,
-            origin,
-            b"%operator a\nfly x\n",
-            b"  a?[31m .txt line 2, column 1\n    fly x\n    ^\n  `fly` is not a command: see --help\n"
-        )
+    assert_listed(
+        &rt,
+        origin,
+        b"%operator a\nfly x\n",
+        b"  a?[31m .txt line 2, column 1\n    fly x\n    ^\n  `fly` is not a command: see --help\n",
     );
 }
 
@@ -483,42 +432,39 @@ fn a_line_is_told_as_that_of_its_own_file(rt: HostRuntime) {
         name: b"bob.txt",
         before: 4,
     };
-    assert!(rt;
-        is_listed(
-            &rt,
-            second,
-            JOINED,
-            b"  bob.txt line 2, column 1\n    fly z\n    ^\n  `fly` is not a command: see --help\n"
-        )
+    assert_listed(
+        &rt,
+        second,
+        JOINED,
+        b"  bob.txt line 2, column 1\n    fly z\n    ^\n  `fly` is not a command: see --help\n",
     );
-    assert!(rt;
-        is_listed(
-            &rt,
-            second,
-            DUPLICATE,
-            b"  bob.txt line 0\n    %operator alice\n  another operator above has this name: give one of the two files a line %operator NAME\n"
-        )
+    assert_listed(
+        &rt,
+        second,
+        DUPLICATE,
+        b"  bob.txt line 0\n    %operator alice\n  another operator above has this name: give one of the two files a line %operator NAME\n",
     );
 }
 
-fn stands_at(rt: &(impl Abort + AllocGlobal), bytes: &[u8], line: usize) -> bool {
-    bytes.len() <= 10_000 && fault_line(bytes, fault_of(rt, bytes)) == line
+fn line_of_fault(rt: &(impl Abort + AllocGlobal), bytes: &[u8]) -> usize {
+    assert!(rt; bytes.len() <= 10_000);
+    fault_line(bytes, fault_of(rt, bytes))
 }
 
 #[test]
 fn the_line_of_a_fault_counts_in_the_job(rt: HostRuntime) {
-    assert!(rt; stands_at(&rt, MISSPELT, 24));
-    assert!(rt; stands_at(&rt, JOINED, 6));
+    assert_eq!(rt; line_of_fault(&rt, MISSPELT), 24);
+    assert_eq!(rt; line_of_fault(&rt, JOINED), 6);
 }
 
-fn are_printed(
+fn assert_printed(
     rt: &(impl Abort + AllocGlobal),
     opening: &CrushMap<Global>,
     scripts: &[Script],
     entries: &[Entry],
     made: &[u8],
     told: &[u8],
-) -> bool
+)
     requires few { length entries.now < 100 }
     requires operators { AreOf (length scripts.now) entries.now }
 {
@@ -526,33 +472,29 @@ fn are_printed(
     let second = opening.try_copy().expect(rt, "no memory");
     let commands = ceph_text(rt.alloc(), first, entries).expect(rt, "no memory");
     let reasons = explained_text(rt.alloc(), second, scripts, entries).expect(rt, "no memory");
-    commands.as_slice() == made && reasons.as_slice() == told
+    assert_text(rt, commands.as_slice(), made);
+    assert_text(rt, reasons.as_slice(), told);
 }
 
-fn is_answered(rt: &(impl Abort + AllocGlobal), job: &Job, made: &[u8], told: &[u8]) -> bool {
+fn assert_answered(rt: &(impl Abort + AllocGlobal), job: &Job, made: &[u8], told: &[u8]) {
     let scripts = job.scripts.as_slice();
-    if scripts.len() != 1 {
-        return false;
-    }
+    assert_eq!(rt; scripts.len(), 1);
     let mut map = job.map.try_copy().expect(rt, "no memory");
     let entries = entries_of(rt, &mut map, scripts, 0);
-    let answered = entries.len() < 100
-        && are_printed(rt, &job.map, scripts, entries.as_slice(), made, told);
+    assert!(rt; entries.len() < 100);
+    assert_printed(rt, &job.map, scripts, entries.as_slice(), made, told);
     drop(entries);
     drop(map);
-    answered
 }
 
 #[test]
 fn commands_and_reasons_are_told(rt: HostRuntime) {
     let job = read_job(rt.alloc(), Hashing::plain(), JOB).expect(&rt, "no job");
-    assert!(rt;
-        is_answered(
-            &rt,
-            &job,
-            b"# 2 commands\nceph osd crush reweight osd.0 2.000000\nceph osd crush move h2 rack=r1 root=default\n",
-            b"# 3 a rm default = refused NotEmpty 39\n  default holds 2 items: move or remove them first\n"
-        )
+    assert_answered(
+        &rt,
+        &job,
+        b"# 2 commands\nceph osd crush reweight osd.0 2.000000\nceph osd crush move h2 rack=r1 root=default\n",
+        b"# 3 a rm default = refused NotEmpty 39\n  default holds 2 items: move or remove them first\n",
     );
     drop(job);
 }
@@ -569,7 +511,7 @@ const RULED_TOLD: &[u8] =
 #[test]
 fn each_is_told_of_the_map_before_it(rt: HostRuntime) {
     let job = read_job(rt.alloc(), Hashing::plain(), RULED).expect(&rt, "no job");
-    assert!(rt; is_answered(&rt, &job, RULED_MADE, RULED_TOLD));
+    assert_answered(&rt, &job, RULED_MADE, RULED_TOLD);
     drop(job);
 }
 
@@ -582,7 +524,7 @@ const MISTYPED_TOLD: &[u8] =
 #[test]
 fn a_mistyped_type_is_told_with_the_type_that_is_meant(rt: HostRuntime) {
     let job = read_job(rt.alloc(), Hashing::plain(), MISTYPED).expect(&rt, "no job");
-    assert!(rt; is_answered(&rt, &job, b"# 0 commands\n", MISTYPED_TOLD));
+    assert_answered(&rt, &job, b"# 0 commands\n", MISTYPED_TOLD);
     drop(job);
 }
 
@@ -597,38 +539,38 @@ const CREATED: &[u8] =
 const CREATED_HINTED: &[u8] =
     b"# 1 a add osd.9 1.00000 host=hots1 rack=rack1 = done changed 1 made 1\n  hots1 was created: did you mean host1?\n# 3 a begin ; add osd.8 1.00000 host=edge rack=rakc1 ; add osd.7 1.00000 host=edge ; commit = dones 2 changed 2 made 2\n  rakc1 was created: did you mean rack1?\n";
 
-fn are_hinted(
+fn assert_hinted(
     rt: &(impl Abort + AllocGlobal),
     opening: CrushMap<Global>,
     scripts: &[Script],
     entries: &[Entry],
-) -> bool
+)
     requires few { length entries.now < 100 }
     requires operators { AreOf (length scripts.now) entries.now }
 {
     let lines = made_text(rt.alloc(), scripts, entries).expect(rt, "no memory");
     let hints = created_text(rt.alloc(), opening, scripts, entries).expect(rt, "no memory");
-    count_makings(entries) == 2 && lines.as_slice() == CREATED && hints.as_slice() == CREATED_HINTED
+    assert_eq!(rt; count_makings(entries), 2);
+    assert_text(rt, lines.as_slice(), CREATED);
+    assert_text(rt, hints.as_slice(), CREATED_HINTED);
 }
 
-fn are_created(rt: &(impl Abort + AllocGlobal), job: &Job) -> bool {
+fn assert_created(rt: &(impl Abort + AllocGlobal), job: &Job) {
     let scripts = job.scripts.as_slice();
-    if scripts.len() != 1 {
-        return false;
-    }
+    assert_eq!(rt; scripts.len(), 1);
     let mut map = job.map.try_copy().expect(rt, "no memory");
     let entries = entries_of(rt, &mut map, scripts, 0);
+    assert!(rt; entries.len() < 100);
     let opening = job.map.try_copy().expect(rt, "no memory");
-    let created = entries.len() < 100 && are_hinted(rt, opening, scripts, entries.as_slice());
+    assert_hinted(rt, opening, scripts, entries.as_slice());
     drop(entries);
     drop(map);
-    created
 }
 
 #[test]
 fn a_created_bucket_is_told_with_the_item_that_is_meant(rt: HostRuntime) {
     let job = read_job(rt.alloc(), Hashing::plain(), CREATING).expect(&rt, "no job");
-    assert!(rt; are_created(&rt, &job));
+    assert_created(&rt, &job);
     drop(job);
 }
 
@@ -641,7 +583,7 @@ const WEIGHTS: &[u8] = b"h1: 554.6 was written, the sum is 554.62000\n";
 fn written_weights_are_told(rt: HostRuntime) {
     let job = read_job(rt.alloc(), Hashing::plain(), WEIGHED).expect(&rt, "no job");
     let told = written_text(rt.alloc(), &job.map, WEIGHED).expect(&rt, "no memory");
-    assert!(rt; told.as_slice() == WEIGHTS);
+    assert_text(&rt, told.as_slice(), WEIGHTS);
     drop(job);
 }
 
@@ -675,29 +617,26 @@ impl Locates for Whole<'_> {
     }
 }
 
-fn are_explained(
+fn assert_explained(
     rt: &(impl Abort + AllocGlobal),
     job: &Job,
     operator: usize,
     file: &Whole<'_>,
     told: &[u8],
-) -> bool {
+) {
     let scripts = job.scripts.as_slice();
     let lines = job.lines.as_slice();
-    if operator >= scripts.len() {
-        return false;
-    }
+    assert!(rt; operator < scripts.len());
     let mut map = job.map.try_copy().expect(rt, "no memory");
     let entries = entries_of(rt, &mut map, scripts, operator);
+    assert!(rt; entries.len() < 100);
     let opening = job.map.try_copy().expect(rt, "no memory");
-    let explained = entries.len() < 100
-        && are_told(rt, opening, file, lines, scripts, entries.as_slice(), told);
+    assert_told(rt, opening, file, lines, scripts, entries.as_slice(), told);
     drop(entries);
     drop(map);
-    explained
 }
 
-fn are_told(
+fn assert_told(
     rt: &(impl Abort + AllocGlobal),
     opening: CrushMap<Global>,
     file: &Whole<'_>,
@@ -705,7 +644,7 @@ fn are_told(
     scripts: &[Script],
     entries: &[Entry],
     told: &[u8],
-) -> bool
+)
     requires few { length entries.now < 100 }
     requires operators { AreOf (length scripts.now) entries.now }
 {
@@ -717,7 +656,7 @@ fn are_told(
         rt,
         "no memory",
     );
-    reasons.as_slice() == told
+    assert_text(rt, reasons.as_slice(), told);
 }
 
 #[test]
@@ -735,8 +674,8 @@ fn a_batch_tells_where_its_refused_edit_stands(rt: HostRuntime) {
         name: b"b.txt",
         before: 14,
     };
-    assert!(rt; are_explained(&rt, &job, 0, &cmds, BATCHES_OF_A));
-    assert!(rt; are_explained(&rt, &job, 0, &none, BATCHES_OF_NO_FILE));
-    assert!(rt; are_explained(&rt, &job, 1, &second, BATCHES_OF_B));
+    assert_explained(&rt, &job, 0, &cmds, BATCHES_OF_A);
+    assert_explained(&rt, &job, 0, &none, BATCHES_OF_NO_FILE);
+    assert_explained(&rt, &job, 1, &second, BATCHES_OF_B);
     drop(job);
 }
