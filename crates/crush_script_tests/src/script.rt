@@ -14,6 +14,7 @@ mod weights;
 mod words;
 mod writing;
 
+use crush_history::Call;
 use crush_map::{CrushMap, Hashing};
 use crush_print::{WeightForm, write_map};
 use crush_script::{Job, JobFault, read_job};
@@ -35,28 +36,26 @@ fn text_of<A: Allocator>(rt: &(impl Abort + AllocGlobal), map: &CrushMap<A>) -> 
     text
 }
 
-fn fault_of(rt: &impl AllocGlobal, text: &[u8]) -> Option<TextFault> {
+fn fault_of(rt: &(impl Abort + AllocGlobal), text: &[u8]) -> TextFault {
     match read_map(rt.alloc(), text) {
         Ok((map, _)) => {
             drop(map);
-            None
+            panic!(rt; "a map")
         }
-        Err(fault) => Some(fault),
+        Err(fault) => fault,
     }
 }
 
-fn is_refused(rt: &impl AllocGlobal, text: &[u8], kind: TextFaultKind, place: usize) -> bool {
-    fault_of(rt, text).is_some_and(|fault| fault.kind == kind && fault.place == place)
-}
-
-fn is_refused_behind(
+fn assert_refused_behind(
     rt: &(impl Abort + AllocGlobal),
     before: &[u8],
     words: &[u8],
     kind: TextFaultKind,
-) -> bool {
+) {
     let text = joined(rt, &[before, words]);
-    is_refused(rt, text.as_slice(), kind, before.len())
+    let fault = fault_of(rt, text.as_slice());
+    assert_eq!(rt; fault.kind.name(), kind.name());
+    assert_eq!(rt; fault.place, before.len());
 }
 
 const LONGEST: &[u8] = &[b'a'; 255];
@@ -67,14 +66,20 @@ fn job_of(rt: &(impl Abort + AllocGlobal), text: &[u8]) -> Job {
     read_job(rt.alloc(), Hashing::plain(), text).expect(rt, "no job")
 }
 
-fn is_no_job(rt: &impl AllocGlobal, text: &[u8], fault: &JobFault) -> bool {
+fn assert_no_job(rt: &(impl Abort + AllocGlobal), text: &[u8], fault: JobFault) {
     match read_job(rt.alloc(), Hashing::plain(), text) {
         Ok(job) => {
             drop(job);
-            false
+            panic!(rt; "a job")
         }
-        Err(other) => other == *fault,
+        Err(other) => assert_eq!(rt; other, fault),
     }
+}
+
+fn assert_command(rt: &(impl Abort + AllocGlobal), call: &Call, command: &str) {
+    let text = format!(in rt.alloc(); "{call}").expect(rt, "no memory");
+    assert_eq!(rt; text.as_str(), command);
+    drop(text);
 }
 
 /// The printed text of the example map without its tunable and its rule.

@@ -3,8 +3,9 @@
 ghost use Rattle.std.specs.Prelude.{◌<◌, length};
 ghost use Rattle.crush_history.specs.Entries.{AreOf};
 
-use super::{PLAIN_EXAMPLE_MAP, job_of, joined};
+use super::{PLAIN_EXAMPLE_MAP, assert_command, job_of, joined};
 use crate::histories::entries_of;
+use crate::texts::assert_text;
 use crush_edits::{Edit, Refusal};
 use crush_history::{Call, Edits, Entry, Reply, Script, Slip, history_text};
 use crush_map::CrushMap;
@@ -29,41 +30,38 @@ const LINES: &[u8] = b"\
     # 2 a begin ; rename-bucket h1 hq ; rm hq ; commit = refused at 1 NotEmpty 39\n\
     # 3 a rm x = refused NoSuchItem 2\n";
 
-fn is_text(
+fn assert_history(
     rt: &(impl Abort + AllocGlobal),
     scripts: &[Script],
     entries: &[Entry],
     lines: &[u8],
-) -> bool
+)
     requires few { length entries.now < 100 }
     requires operators { AreOf (length scripts.now) entries.now }
 {
     let text = history_text(rt.alloc(), scripts, entries).expect(rt, "no memory");
-    text.as_slice() == lines
+    assert_text(rt, text.as_slice(), lines);
 }
 
-fn is_run(
+fn assert_run(
     rt: &(impl Abort + AllocGlobal),
     map: &mut CrushMap<Global>,
     scripts: &[Script],
     lines: &[u8],
-) -> bool {
-    if scripts.len() != 1 {
-        return false;
-    }
+) {
+    assert_eq!(rt; scripts.len(), 1);
     let entries = entries_of(rt, map, scripts, 0);
-    let is = entries.len() < 100 && is_text(rt, scripts, entries.as_slice(), lines);
+    assert!(rt; entries.len() < 100);
+    assert_history(rt, scripts, entries.as_slice(), lines);
     drop(entries);
-    is
 }
 
 #[test]
 fn a_history_has_a_line_for_each_call(rt: HostRuntime) {
     let text = joined(&rt, &[PLAIN_EXAMPLE_MAP, SCRIPT]);
     let mut job = job_of(&rt, text.as_slice());
-    let is = is_run(&rt, &mut job.map, job.scripts.as_slice(), LINES);
+    assert_run(&rt, &mut job.map, job.scripts.as_slice(), LINES);
     drop(job);
-    assert!(rt; is);
 }
 
 #[test]
@@ -75,23 +73,15 @@ fn a_copy_of_a_script_makes_the_same_calls(rt: HostRuntime) {
     assert_eq!(rt; copy, script);
     drop(script);
     let scripts = [copy];
-    let is = is_run(&rt, &mut job.map, scripts.as_slice(), LINES);
+    assert_run(&rt, &mut job.map, scripts.as_slice(), LINES);
     drop(scripts);
     drop(job);
-    assert!(rt; is);
 }
 
 fn remove_x(rt: &(impl Abort + AllocGlobal)) -> Edit {
     Edit::Remove {
         name: Name::read(rt.alloc(), b"x").expect(rt, "no name"),
     }
-}
-
-fn is_command(rt: &(impl Abort + AllocGlobal), call: &Call, command: &str) -> bool {
-    let text = format!(in rt.alloc(); "{call}").expect(rt, "no memory");
-    let is = text.as_str() == command;
-    drop(text);
-    is
 }
 
 #[test]
@@ -107,7 +97,7 @@ fn an_entry_is_copied(rt: HostRuntime) {
     assert_eq!(rt; copy, entry);
     drop(entry);
     assert_eq!(rt; copy.operator, 3);
-    assert!(rt; is_command(&rt, &copy.call, "rm x"));
+    assert_command(&rt, &copy.call, "rm x");
     assert_eq!(rt; copy.reply, reply);
     drop(copy);
 }
@@ -143,7 +133,7 @@ fn a_slip_with_a_batch_is_copied(rt: HostRuntime) {
     let slip = Slip { call, reply };
     let copy = slip.try_copy(rt.alloc()).expect(&rt, "no memory");
     drop(slip);
-    assert!(rt; is_command(&rt, &copy.call, "begin at 7 ; rm x ; commit"));
+    assert_command(&rt, &copy.call, "begin at 7 ; rm x ; commit");
     assert_eq!(rt; copy.reply, reply);
     drop(copy);
 }

@@ -1,35 +1,27 @@
 //! Tests jobs, and runs in which their scripts are applied one after the other.
 
-use crate::script::{PLAIN_EXAMPLE_MAP, is_no_job, job_of, joined};
-use crush_edits::{Edit, Keyword, Placing};
-use crush_history::{Call, Script, make_call, write_entry};
+use crate::script::{PLAIN_EXAMPLE_MAP, assert_command, assert_no_job, job_of, joined};
+use crate::texts::assert_text;
+use crush_edits::{Keyword, Placing};
+use crush_history::{Script, make_call, write_entry};
 use crush_map::CrushMap;
 use crush_script::{BadLine, Due, Form, Job, JobFault, Misfit, line_feeds, map_part, placed_word};
 use std::alloc::Global;
 use std::process::Abort;
 
-fn is_reweight(call: &Call) -> bool {
-    match call {
-        Call::One(Edit::Reweight { name, weight }) => name.is(b"osd.2") && weight.units() == 65536,
-        _ => false,
-    }
+fn assert_reweight(rt: &(impl Abort + AllocGlobal), scripts: &[Script]) {
+    assert_eq!(rt; scripts.len(), 1);
+    let script = &scripts[0];
+    assert_eq!(rt; script.name.as_str(), "a");
+    assert_eq!(rt; script.calls.len(), 1);
+    assert_command(rt, &script.calls[0], "reweight osd.2 1.00000");
 }
 
-fn has_reweight(scripts: &[Script]) -> bool {
-    match scripts {
-        [script] => match script.calls.as_slice() {
-            [call] => script.name.is(b"a") && is_reweight(call),
-            _ => false,
-        },
-        _ => false,
-    }
-}
-
-fn is_read(job: &Job) -> bool {
-    job.map.total() == 163840
-        && job.map.counts().devices == 3
-        && job.adjusted.count() == 0
-        && has_reweight(job.scripts.as_slice())
+fn assert_read(rt: &(impl Abort + AllocGlobal), job: &Job) {
+    assert_eq!(rt; job.map.total(), 163840);
+    assert_eq!(rt; job.map.counts().devices, 3);
+    assert_eq!(rt; job.adjusted.count(), 0);
+    assert_reweight(rt, job.scripts.as_slice());
 }
 
 #[test]
@@ -37,9 +29,8 @@ fn a_job_is_read(rt: HostRuntime) {
     let script = b"%operator a\nreweight osd.2 1.0\n";
     let text = joined(&rt, &[PLAIN_EXAMPLE_MAP, script]);
     let job = job_of(&rt, text.as_slice());
-    let is_read = is_read(&job);
+    assert_read(&rt, &job);
     drop(job);
-    assert!(rt; is_read);
 }
 
 const CALLS: &[u8] =
@@ -64,24 +55,22 @@ fn lines_of(
     lines
 }
 
-fn are_answered(
+fn assert_answered(
     rt: &(impl Abort + AllocGlobal),
     map: &mut CrushMap<Global>,
     scripts: &[Script],
-) -> bool {
-    match scripts {
-        [script] => lines_of(rt, map, script).as_slice() == HISTORY,
-        _ => false,
-    }
+) {
+    assert_eq!(rt; scripts.len(), 1);
+    let lines = lines_of(rt, map, &scripts[0]);
+    assert_text(rt, lines.as_slice(), HISTORY);
 }
 
 #[test]
 fn calls_are_answered_in_turn(rt: HostRuntime) {
     let mut job = job_of(&rt, CALLS);
-    let are_answered = are_answered(&rt, &mut job.map, job.scripts.as_slice());
+    assert_answered(&rt, &mut job.map, job.scripts.as_slice());
     let total = job.map.total();
     drop(job);
-    assert!(rt; are_answered);
     assert_eq!(rt; total, 131072);
 }
 
@@ -100,14 +89,9 @@ fn call_count(rt: &(impl Abort + AllocGlobal), text: &[u8]) -> Option<usize> {
     count
 }
 
-fn is_no_job_with(
-    rt: &(impl Abort + AllocGlobal),
-    text: &[u8],
-    line: &[u8],
-    fault: &JobFault,
-) -> bool {
+fn assert_no_job_with(rt: &(impl Abort + AllocGlobal), text: &[u8], line: &[u8], fault: JobFault) {
     let text = joined(rt, &[text, line]);
-    is_no_job(rt, text.as_slice(), fault)
+    assert_no_job(rt, text.as_slice(), fault);
 }
 
 fn misfit_in(line: usize, word: usize, due: Due) -> JobFault {
@@ -146,7 +130,7 @@ const MISFITS: &[(&[u8], usize, Due)] = &[
 #[test]
 fn a_fault_tells_the_word_that_does_not_fit(rt: HostRuntime) {
     for (line, word, due) in MISFITS {
-        assert!(&rt; is_no_job_with(&rt, b"%operator b\n", line, &misfit_in(2, *word, *due)));
+        assert_no_job_with(&rt, b"%operator b\n", line, misfit_in(2, *word, *due));
     }
 }
 
@@ -164,29 +148,33 @@ fn a_fault_tells_why_a_line_is_misplaced(rt: HostRuntime) {
         line: 2,
         why: BadLine::NoBatch,
     };
-    assert!(rt; is_no_job(&rt, b"%operato a", &no_operator));
-    assert!(rt; is_no_job(&rt, b"%operator a\nbegin\nbegin", &open));
-    assert!(rt; is_no_job(&rt, b"%operator a\ncommit", &none));
-    assert!(rt; is_no_job(&rt, b"%operator a b", &misfit_in(1, 2, Due::End)));
-    assert!(rt; is_no_job(&rt, b"%operator", &misfit_in(1, 1, Due::Name)));
+    assert_no_job(&rt, b"%operato a", no_operator);
+    assert_no_job(&rt, b"%operator a\nbegin\nbegin", open);
+    assert_no_job(&rt, b"%operator a\ncommit", none);
+    assert_no_job(&rt, b"%operator a b", misfit_in(1, 2, Due::End));
+    assert_no_job(&rt, b"%operator", misfit_in(1, 1, Due::Name));
 }
 
 const TWO_SCRIPTS: &[u8] =
     b"type 1 host\n%operator a\n# none\nrm x\nbegin\nrm y\n\nrm z\ncommit\n%operator b\n%operator c\nrm x";
 
+fn assert_lines(rt: &impl Abort, lines: &[Vec<u32>]) {
+    assert_eq!(rt; lines.len(), 3);
+    let (a, b, c) = (&lines[0], &lines[1], &lines[2]);
+    assert_eq!(rt; a.len(), 3);
+    assert_eq!(rt; a[0], 4);
+    assert_eq!(rt; a[1], 6);
+    assert_eq!(rt; a[2], 8);
+    assert_eq!(rt; b.len(), 0);
+    assert_eq!(rt; c.len(), 1);
+    assert_eq!(rt; c[0], 12);
+}
+
 #[test]
 fn a_job_has_the_lines_of_its_edits(rt: HostRuntime) {
     let job = job_of(&rt, TWO_SCRIPTS);
-    let are_lines = match job.lines.as_slice() {
-        [a, b, c] => {
-            a.as_slice() == [4u32, 6, 8].as_slice()
-                && b.is_empty()
-                && c.as_slice() == [12u32].as_slice()
-        }
-        _ => false,
-    };
+    assert_lines(&rt, job.lines.as_slice());
     drop(job);
-    assert!(rt; are_lines);
 }
 
 #[test]
@@ -196,9 +184,9 @@ fn a_word_of_a_line_has_its_place(rt: HostRuntime) {
     let none = placed_word(line, 3);
     assert_eq!(rt; placed_word(line, 0).place, 1);
     assert_eq!(rt; last.place, 10);
-    assert!(rt; last.text == b"x".as_slice());
+    assert_text(&rt, last.text, b"x");
     assert_eq!(rt; none.place, 11);
-    assert!(rt; none.text.is_empty());
+    assert_text(&rt, none.text, b"");
 }
 
 #[test]
@@ -218,17 +206,15 @@ fn a_job_has_at_most_65536_calls(rt: HostRuntime) {
     let text = with_lines(&rt, b"%operator a\n", b"reweight x 1\n");
     let text = text.as_slice();
     assert_eq!(rt; call_count(&rt, text), Some(65536));
-    assert!(rt;
-        is_no_job_with(
-            &rt,
-            text,
-            b"\nreweight x\n",
-            &misfit_in(65539, 2, Due::Weight)
-        )
+    assert_no_job_with(
+        &rt,
+        text,
+        b"\nreweight x\n",
+        misfit_in(65539, 2, Due::Weight),
     );
-    assert!(rt; is_no_job_with(&rt, text, b"\nreweight x 1", &JobFault::TooManyCalls(65539)));
-    assert!(rt; is_no_job_with(&rt, text, b"\nbegin\nfly", &JobFault::TooManyCalls(65539)));
-    assert!(rt; is_no_job_with(&rt, text, b"\nbegin x", &misfit_in(65539, 1, Due::At)));
+    assert_no_job_with(&rt, text, b"\nreweight x 1", JobFault::TooManyCalls(65539));
+    assert_no_job_with(&rt, text, b"\nbegin\nfly", JobFault::TooManyCalls(65539));
+    assert_no_job_with(&rt, text, b"\nbegin x", misfit_in(65539, 1, Due::At));
 }
 
 #[test]
@@ -237,18 +223,16 @@ fn a_batch_has_at_most_65536_edits(rt: HostRuntime) {
     let open = open.as_slice();
     let text = joined(&rt, &[open, b"\ncommit"]);
     assert_eq!(rt; call_count(&rt, text.as_slice()), Some(1));
-    assert!(rt;
-        is_no_job_with(
-            &rt,
-            open,
-            b"\nrm x",
-            &JobFault::BadLine {
-                line: 65540,
-                why: BadLine::BatchFull,
-            }
-        )
+    assert_no_job_with(
+        &rt,
+        open,
+        b"\nrm x",
+        JobFault::BadLine {
+            line: 65540,
+            why: BadLine::BatchFull,
+        },
     );
-    assert!(rt; is_no_job_with(&rt, open, b"\nfly", &JobFault::NoSuchCommand(65540)));
+    assert_no_job_with(&rt, open, b"\nfly", JobFault::NoSuchCommand(65540));
 }
 
 #[test]
@@ -259,13 +243,13 @@ fn a_job_has_at_most_sixteen_mebibytes(rt: HostRuntime) {
     let count = job.scripts.len();
     drop(job);
     assert_eq!(rt; count, 0);
-    assert!(rt; is_no_job_with(&rt, text, b"%", &JobFault::TooLong));
+    assert_no_job_with(&rt, text, b"%", JobFault::TooLong);
 }
 
 #[test]
 fn a_job_is_cut_before_its_first_section(rt: HostRuntime) {
     let job: &[u8] = b"device 0 a # 100 %\n \r\n%operator b\nrm a\n";
     let text: &[u8] = b"device 0 a # 100 %\n \r\n";
-    assert!(rt; map_part(job) == text);
+    assert_text(&rt, map_part(job), text);
     assert_eq!(rt; line_feeds(job), 4);
 }

@@ -3,7 +3,7 @@
 //! is rejected. The other limits are in examples/refused/limits.txt.
 
 use crate::maps::map_of;
-use crate::script::{is_refused_behind, joined, put_behind};
+use crate::script::{assert_refused_behind, joined, put_behind};
 use crush_text::TextFaultKind;
 use std::ops::Range;
 use std::process::Abort;
@@ -53,14 +53,13 @@ fn at_most_65536_devices(rt: HostRuntime) {
     let map = map_of(&rt, most.as_slice());
     let devices = map.counts().devices;
     drop(map);
-    let is_refused = is_refused_behind(
+    assert_eq!(rt; devices, 65536);
+    assert_refused_behind(
         &rt,
         most.as_slice(),
         b"device 65536 osd.65536\n",
         TextFaultKind::TooMany,
     );
-    assert_eq!(rt; devices, 65536);
-    assert!(rt; is_refused);
 }
 
 /// Returns the text of a map with 4,096 buckets. The first bucket has no items. Each other bucket
@@ -89,7 +88,7 @@ const BEHIND_4096_BUCKETS: &[(&[u8], TextFaultKind)] = &[
 fn at_most_4096_buckets(rt: HostRuntime) {
     let most = chain(&rt);
     for (words, kind) in BEHIND_4096_BUCKETS {
-        assert!(rt; is_refused_behind(&rt, most.as_slice(), *words, *kind));
+        assert_refused_behind(&rt, most.as_slice(), *words, *kind);
     }
 }
 
@@ -121,12 +120,11 @@ fn a_total_of_at_most_8796093022207_units(rt: HostRuntime) {
     let map = map_of(&rt, most.as_slice());
     let total = map.total();
     drop(map);
-    let is_refused = is_refused_behind(
+    assert_eq!(rt; total, 8796093022207);
+    assert_refused_behind(
         &rt,
         before.as_slice(),
         b"0.03125 }",
         TextFaultKind::SumTooLarge,
     );
-    assert_eq!(rt; total, 8796093022207);
-    assert!(rt; is_refused);
 }

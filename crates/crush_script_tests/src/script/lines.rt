@@ -24,13 +24,13 @@ fn copied(rt: &(impl Abort + AllocGlobal), call: Call) -> Call {
     copy
 }
 
-fn has_line(
-    rt: &impl AllocGlobal,
+fn assert_line(
+    rt: &(impl Abort + AllocGlobal),
     call: &Call,
     of: (u32, &str),
     reply: Reply,
-    line: &[u8],
-) -> bool {
+    line: &str,
+) {
     let (number, operator) = of;
     let shown = Line {
         number,
@@ -38,41 +38,40 @@ fn has_line(
         call,
         reply,
     };
-    match format!(in rt.alloc(); "{shown}\n") {
-        Ok(text) => text.as_bytes() == line,
-        Err(_) => false,
-    }
+    let text = format!(in rt.alloc(); "{shown}\n").expect(rt, "no memory");
+    assert_eq!(rt; text.as_str(), line);
 }
 
-fn is_single(rt: &impl AllocGlobal, call: &Call) -> bool {
+fn assert_single(rt: &(impl Abort + AllocGlobal), call: &Call) {
     let done = Reply::Done(Done {
         changed: false,
         made: 2,
     });
     let refused = Reply::Refused(Refusal::NotPlaced);
-    let line = b"# 4 b reweight osd.0 0.33299 = done changed 0 made 2\n";
-    let last = b"# 65536 op-1 reweight osd.0 0.33299 = refused NotPlaced 2\n";
-    has_line(rt, call, (4, "b"), done, line) && has_line(rt, call, (65536, "op-1"), refused, last)
+    let line = "# 4 b reweight osd.0 0.33299 = done changed 0 made 2\n";
+    let last = "# 65536 op-1 reweight osd.0 0.33299 = refused NotPlaced 2\n";
+    assert_line(rt, call, (4, "b"), done, line);
+    assert_line(rt, call, (65536, "op-1"), refused, last);
 }
 
-/// Whether the right line is written for a batch with one edit whose reply is the reply to a single
-/// edit that was refused.
-fn is_batch(rt: &impl AllocGlobal, call: &Call) -> bool {
+/// Asserts that the right line is written for a batch with one edit whose reply is the reply to a
+/// single edit that was refused.
+fn assert_batch(rt: &(impl Abort + AllocGlobal), call: &Call) {
     let refused = Reply::Refused(Refusal::Loop);
-    let line = b"# 1 a begin ; reweight osd.2 1.00000 ; commit = refused Loop 40\n";
-    has_line(rt, call, (1, "a"), refused, line)
+    let line = "# 1 a begin ; reweight osd.2 1.00000 ; commit = refused Loop 40\n";
+    assert_line(rt, call, (1, "a"), refused, line);
 }
 
-/// Whether the right line is written for an empty batch whose reply is the reply to a batch of many
-/// edits.
-fn is_empty_batch(rt: &impl AllocGlobal, call: &Call) -> bool {
+/// Asserts that the right line is written for an empty batch whose reply is the reply to a batch of
+/// many edits.
+fn assert_empty_batch(rt: &(impl Abort + AllocGlobal), call: &Call) {
     let done = Reply::Dones(Dones {
         edits: 65536,
         changed: 12,
         made: 4096,
     });
-    let line = b"# 65536 b begin ; commit = dones 65536 changed 12 made 4096\n";
-    has_line(rt, call, (65536, "b"), done, line)
+    let line = "# 65536 b begin ; commit = dones 65536 changed 12 made 4096\n";
+    assert_line(rt, call, (65536, "b"), done, line);
 }
 
 #[test]
@@ -80,11 +79,12 @@ fn copies_of_calls_are_lines(rt: HostRuntime) {
     let single = copied(&rt, Call::One(reweight(&rt, b"osd.0", 21823)));
     let batch = copied(&rt, batch_of(&rt, reweight(&rt, b"osd.2", 65536)));
     let none = Call::Batch(Edits::new(Vec::new(rt.alloc())));
-    let are_lines = is_single(&rt, &single) && is_batch(&rt, &batch) && is_empty_batch(&rt, &none);
+    assert_single(&rt, &single);
+    assert_batch(&rt, &batch);
+    assert_empty_batch(&rt, &none);
     drop(none);
     drop(batch);
     drop(single);
-    assert!(rt; are_lines);
 }
 
 /// A weight of 21823 units is 0.332993 with six digits after the point. In a command, it has five
@@ -94,5 +94,5 @@ fn an_edit_is_written_as_a_command(rt: HostRuntime) {
     let edit = reweight(&rt, b"osd.0", 21823);
     let text = format!(in rt.alloc(); "{edit}").expect(&rt, "no memory");
     drop(edit);
-    assert!(rt; text.as_bytes() == b"reweight osd.0 0.33299".as_slice());
+    assert_eq!(rt; text.as_str(), "reweight osd.0 0.33299");
 }

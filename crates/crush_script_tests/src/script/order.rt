@@ -2,39 +2,42 @@
 
 use crate::maps::map_of;
 use crate::script::text_of;
+use crate::texts::assert_text;
 use crush_print::{buckets, devices};
 use std::process::Abort;
 
-fn are_in_order(
+fn assert_order(
     rt: &(impl Abort + AllocGlobal),
     text: &[u8],
     device_numbers: &[u32],
     bucket_numbers: &[i32],
-) -> bool {
+) {
     let map = map_of(rt, text);
     let devices = devices(rt.alloc(), &map).expect(rt, "no memory");
     let buckets = buckets(rt.alloc(), &map).expect(rt, "no memory");
     let printed = text_of(rt, &map);
     drop(map);
-    printed.as_slice() == text
-        && devices
-            .iter()
-            .map(|device| device.number())
-            .eq(device_numbers.iter().copied())
-        && buckets
-            .iter()
-            .map(|bucket| bucket.number())
-            .eq(bucket_numbers.iter().copied())
+    assert_text(rt, printed.as_slice(), text);
+    assert_eq!(rt; devices.len(), device_numbers.len());
+    for (place, number) in device_numbers.iter().enumerate() {
+        let device = devices.get(place).expect(rt, "no device");
+        assert_eq!(rt; device.number(), *number);
+    }
+    assert_eq!(rt; buckets.len(), bucket_numbers.len());
+    for (place, number) in bucket_numbers.iter().enumerate() {
+        let bucket = buckets.get(place).expect(rt, "no bucket");
+        assert_eq!(rt; bucket.number(), *number);
+    }
 }
 
 #[test]
 fn buckets_stand_behind_those_below_them(rt: HostRuntime) {
-    assert!(rt; are_in_order(&rt, NESTED, &[0, 1, 2], &[-2, -5, -3, -6, -7, -4, -1]));
+    assert_order(&rt, NESTED, &[0, 1, 2], &[-2, -5, -3, -6, -7, -4, -1]);
 }
 
 #[test]
 fn a_device_that_no_bucket_holds_stands_by_its_id(rt: HostRuntime) {
-    assert!(rt; are_in_order(&rt, UNPLACED, &[0, 1, 2, 9], &[-2, -3, -1]));
+    assert_order(&rt, UNPLACED, &[0, 1, 2, 9], &[-2, -3, -1]);
 }
 
 /// The map of `examples/maps/conf-3.job`. In this map, the host node0001 has an id that is farther

@@ -2,6 +2,7 @@
 //! prefix says whether the prefix is the text of a map.
 
 use crate::script::{put_behind, text_of};
+use crate::texts::assert_text;
 use crush_map::CrushMap;
 use crush_text::{TextFault, TextFaultKind, read_map};
 use std::alloc::Global;
@@ -113,11 +114,13 @@ fn last_word(prefix: &[u8]) -> usize {
     begin
 }
 
-fn is_at_the_end(fault: TextFault, prefix: &[u8], is_cut: bool) -> bool {
+fn assert_at_the_end(rt: &impl Abort, fault: TextFault, prefix: &[u8], is_cut: bool) {
     if fault.kind == TextFaultKind::Ended {
-        fault.place == prefix.len()
+        assert_eq!(rt; fault.place, prefix.len());
     } else {
-        is_cut && fault.place < prefix.len() && fault.place == last_word(prefix)
+        assert!(rt; is_cut);
+        assert!(rt; fault.place < prefix.len());
+        assert_eq!(rt; fault.place, last_word(prefix));
     }
 }
 
@@ -132,27 +135,29 @@ fn statements(rt: &(impl Abort + AllocGlobal), text: &[u8]) -> Vec<u8> {
     kept
 }
 
-fn has_the_statements(
-    rt: &(impl Abort + AllocGlobal),
-    map: &CrushMap<Global>,
-    prefix: &[u8],
-) -> bool {
+fn assert_statements(rt: &(impl Abort + AllocGlobal), map: &CrushMap<Global>, prefix: &[u8]) {
     let text = text_of(rt, map);
-    statements(rt, text.as_slice()) == statements(rt, prefix)
+    let printed = statements(rt, text.as_slice());
+    let expected = statements(rt, prefix);
+    assert_text(rt, printed.as_slice(), expected.as_slice());
 }
 
-/// Whether reading the prefix has the expected result. If the prefix is the text of a map, the
+/// Asserts that reading the prefix has the expected result. If the prefix is the text of a map, the
 /// result is a map with the statements of the prefix. Otherwise, the result is a fault at the end
 /// of the prefix, or at the prefix's last word if this word is cut. `is_cut` says whether the
 /// prefix ends within a word.
-fn is_due(rt: &(impl Abort + AllocGlobal), prefix: &[u8], is_cut: bool) -> bool {
+fn assert_due(rt: &(impl Abort + AllocGlobal), prefix: &[u8], is_cut: bool) {
     match read_map(rt.alloc(), prefix) {
         Ok((map, adjusted)) => {
-            let is_printed = has_the_statements(rt, &map, prefix);
+            assert_statements(rt, &map, prefix);
             drop(map);
-            is_whole(prefix) && adjusted.count() == 0 && is_printed
+            assert!(rt; is_whole(prefix));
+            assert_eq!(rt; adjusted.count(), 0);
         }
-        Err(fault) => !is_whole(prefix) && is_at_the_end(fault, prefix, is_cut),
+        Err(fault) => {
+            assert!(rt; !is_whole(prefix));
+            assert_at_the_end(rt, fault, prefix, is_cut);
+        }
     }
 }
 
@@ -169,6 +174,6 @@ fn cuts_a_word(prefix: &[u8], rest: &[u8]) -> bool {
 fn prefixes_of_the_example_map(rt: HostRuntime) {
     for length in 0..EXAMPLE_MAP.len() + 1 {
         let (prefix, rest) = EXAMPLE_MAP.split_at(length);
-        assert!(rt; is_due(&rt, prefix, cuts_a_word(prefix, rest)));
+        assert_due(&rt, prefix, cuts_a_word(prefix, rest));
     }
 }

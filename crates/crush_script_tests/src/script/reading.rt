@@ -1,37 +1,38 @@
 //! Tests how the plain example map is read and printed, and how faults are printed.
 
 use crate::script::{PLAIN_EXAMPLE_MAP, job_of, joined, text_of};
+use crate::texts::assert_text;
 use crush_map::CrushMap;
 use crush_script::{BadLine, Due, JobFault, Misfit};
 use crush_text::{Expected, TextFault, TextFaultKind, read_map};
 use std::alloc::Global;
+use std::process::Abort;
 
-fn has_id(map: &CrushMap<Global>, name: &str, number: Option<i32>) -> bool {
+fn id_of(map: &CrushMap<Global>, name: &str) -> Option<i32> {
     match map.locate(name) {
-        Some(id) => number == Some(id.number()),
-        None => number.is_none(),
+        Some(id) => Some(id.number()),
+        None => None,
     }
 }
 
-fn is_plain_example_map(map: &CrushMap<Global>) -> bool {
+fn assert_plain_example_map(rt: &impl Abort, map: &CrushMap<Global>) {
     let counts = map.counts();
-    map.total() == 163840
-        && counts.devices == 3
-        && counts.buckets == 3
-        && has_id(map, "osd.2", Some(2))
-        && has_id(map, "h2", Some(-3))
-        && has_id(map, "h3", None)
+    assert_eq!(rt; map.total(), 163840);
+    assert_eq!(rt; counts.devices, 3);
+    assert_eq!(rt; counts.buckets, 3);
+    assert_eq!(rt; id_of(map, "osd.2"), Some(2));
+    assert_eq!(rt; id_of(map, "h2"), Some(-3));
+    assert_eq!(rt; id_of(map, "h3"), None);
 }
 
 #[test]
 fn the_plain_example_map_is_read_and_printed(rt: HostRuntime) {
     let (map, adjusted) = read_map(rt.alloc(), PLAIN_EXAMPLE_MAP).expect(&rt, "no map");
-    let is_read = is_plain_example_map(&map);
+    assert_plain_example_map(&rt, &map);
     let text = text_of(&rt, &map);
     drop(map);
-    assert!(rt; is_read);
     assert_eq!(rt; adjusted.count(), 0);
-    assert!(rt; text.as_slice() == PLAIN_EXAMPLE_MAP);
+    assert_text(&rt, text.as_slice(), PLAIN_EXAMPLE_MAP);
 }
 
 fn bad_line(why: BadLine) -> JobFault {

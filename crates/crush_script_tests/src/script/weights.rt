@@ -2,6 +2,7 @@
 //! 238465 units.
 
 use crate::script::text_of;
+use crate::texts::assert_text;
 use crush_print::{WeightForm, write_map};
 use crush_text::read_map;
 
@@ -66,7 +67,7 @@ fn both_forms_are_read_as_the_same_map(rt: HostRuntime) {
         let written = write_map(rt.alloc(), &map, WeightForm::Exact, &mut exact);
         drop(map);
         assert!(rt; written.is_ok());
-        assert!(rt; rounded.as_slice() == ROUNDED);
-        assert!(rt; exact.as_slice() == EXACT);
+        assert_text(&rt, rounded.as_slice(), ROUNDED);
+        assert_text(&rt, exact.as_slice(), EXACT);
     }
 }

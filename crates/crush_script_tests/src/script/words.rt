@@ -1,21 +1,42 @@
 //! Tests how a text is split into words, and which words are numbers.
 
 use crate::script::{LONGEST, TOO_LONG, joined};
+use crate::texts::assert_text;
 use crush_units::number::number_up_to;
 use crush_units::{Reader, Token};
 use std::process::Abort;
 
-fn is_word(reader: &mut Reader<'_>, at: usize, word: &[u8]) -> bool {
-    matches!(reader.next(), Token::Word { place, text } if place == at && text == word)
+fn assert_word(rt: &(impl Abort + AllocGlobal), reader: &mut Reader<'_>, at: usize, word: &[u8]) {
+    match reader.next() {
+        Token::Word { place, text } => {
+            assert_eq!(rt; place, at);
+            assert_text(rt, text, word);
+        }
+        _ => panic!(rt; "no word"),
+    }
 }
 
-fn is_bad(reader: &mut Reader<'_>, at: usize) -> bool {
-    matches!(reader.next(), Token::Bad { place } if place == at)
+fn assert_bad(rt: &impl Abort, reader: &mut Reader<'_>, at: usize) {
+    match reader.next() {
+        Token::Bad { place } => assert_eq!(rt; place, at),
+        _ => panic!(rt; "no bad word"),
+    }
 }
 
-fn are_words(rt: &impl Abort, reader: &mut Reader<'_>, words: &[(usize, &[u8])]) {
+fn assert_end(rt: &impl Abort, reader: &mut Reader<'_>, at: usize) {
+    match reader.next() {
+        Token::End { place } => assert_eq!(rt; place, at),
+        _ => panic!(rt; "no end"),
+    }
+}
+
+fn assert_words(
+    rt: &(impl Abort + AllocGlobal),
+    reader: &mut Reader<'_>,
+    words: &[(usize, &[u8])],
+) {
     for (at, word) in words {
-        assert!(rt; is_word(reader, *at, *word));
+        assert_word(rt, reader, *at, *word);
     }
 }
 
@@ -30,15 +51,15 @@ fn takes_the_key(reader: &mut Reader<'_>) -> bool {
 #[test]
 fn reads_words(rt: HostRuntime) {
     let mut reader = Reader::new(b"host h1{#id\n\tid -2}# end");
-    are_words(&rt, &mut reader, BEFORE_KEY);
+    assert_words(&rt, &mut reader, BEFORE_KEY);
     assert!(rt; takes_the_key(&mut reader));
-    are_words(&rt, &mut reader, BEHIND_KEY);
-    assert!(rt; matches!(reader.next(), Token::End { place: 24 }));
+    assert_words(&rt, &mut reader, BEHIND_KEY);
+    assert_end(&rt, &mut reader, 24);
 }
 
-fn is_too_long(text: &[u8]) -> bool {
+fn assert_too_long(rt: &impl Abort, text: &[u8]) {
     let mut reader = Reader::new(text);
-    is_bad(&mut reader, 0)
+    assert_bad(rt, &mut reader, 0);
 }
 
 #[test]
@@ -46,16 +67,16 @@ fn stops_at_bad_bytes_and_long_words(rt: HostRuntime) {
     let mut reader = Reader::new(b"host$ h1");
     let mut longest = Reader::new(LONGEST);
     let text = joined(&rt, &[TOO_LONG, b"$"]);
-    assert!(rt; is_word(&mut reader, 0, b"host"));
-    assert!(rt; is_bad(&mut reader, 4));
-    assert!(rt; is_bad(&mut reader, 4));
-    assert!(rt; is_word(&mut longest, 0, LONGEST));
-    assert!(rt; is_too_long(TOO_LONG));
-    assert!(rt; is_too_long(text.as_slice()));
+    assert_word(&rt, &mut reader, 0, b"host");
+    assert_bad(&rt, &mut reader, 4);
+    assert_bad(&rt, &mut reader, 4);
+    assert_word(&rt, &mut longest, 0, LONGEST);
+    assert_too_long(&rt, TOO_LONG);
+    assert_too_long(&rt, text.as_slice());
 }
 
 #[test]
 fn numbers_are_read_up_to_the_greatest(rt: HostRuntime) {
     assert_eq!(rt; number_up_to(65535, b"65535"), Some(65535));
-    assert!(rt; number_up_to(0, b"").is_none());
+    assert_eq!(rt; number_up_to(0, b""), None);
 }

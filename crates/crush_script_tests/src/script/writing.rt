@@ -1,7 +1,9 @@
 //! Tests writers that accept only a few bytes at a time, and writers that fail.
 
+use crate::texts::assert_text;
 use crush_units::{WriteFault, put, put_all};
 use std::io::{self, Error, ErrorKind, Write};
+use std::process::Abort;
 
 /// A writer that accepts at most seven bytes in a call. After `room` bytes, one call fails or
 /// accepts no bytes. Later calls accept bytes again, so a test would notice code that tries again.
@@ -39,23 +41,32 @@ fn parts_go_out_one_after_the_other(rt: HostRuntime) {
     let parts = [b"h1".as_slice(), b"".as_slice(), b" {\n".as_slice()];
     assert!(rt; put(&mut held, b"host ").is_ok());
     assert!(rt; put_all(&mut held, &parts).is_ok());
-    assert!(rt; held.as_slice() == b"host h1 {\n".as_slice());
+    assert_text(&rt, held.as_slice(), b"host h1 {\n");
     assert_eq!(rt; WriteFault::Write.number(), 1);
     assert_eq!(rt; WriteFault::OutOfMemory.number(), 2);
 }
 
-fn is_answer(
-    rt: &impl AllocGlobal,
+/// Writes a text of 25 bytes to a writer that fails after `room` bytes. Asserts that the write fails
+/// with `fault`, or succeeds if `fault` is `None`. Also asserts that the writer has accepted the
+/// first `room` bytes of the text.
+fn assert_answer(
+    rt: &(impl Abort + AllocGlobal),
     room: usize,
     fails: bool,
-    answer: Result<(), WriteFault>,
-) -> bool {
+    fault: Option<WriteFault>,
+) {
     let parts = [b"item osd.0".as_slice(), b" weight 1.00000".as_slice()];
     let held = Vec::new(rt.alloc());
     let mut out = Slow { held, room, fails };
-    put_all(&mut out, &parts) == answer
-        && out.held.len() == room
-        && b"item osd.0 weight 1.00000".starts_with(out.held.as_slice())
+    let outcome = match put_all(&mut out, &parts) {
+        Ok(()) => None,
+        Err(fault) => Some(fault),
+    };
+    assert_eq!(rt; outcome, fault);
+    let whole: &[u8] = b"item osd.0 weight 1.00000";
+    let (expected, _) = whole.split_at(room.min(whole.len()));
+    assert_text(rt, out.held.as_slice(), expected);
+    assert_eq!(rt; out.held.len(), room);
 }
 
 const ROOMS: &[(usize, bool)] = &[(0, true), (7, true), (12, false), (24, true), (24, false)];
@@ -63,7 +74,7 @@ const ROOMS: &[(usize, bool)] = &[(0, true), (7, true), (12, false), (24, true),
 #[test]
 fn a_prefix_stands_after_a_failure(rt: HostRuntime) {
     for (room, fails) in ROOMS {
-        assert!(rt; is_answer(&rt, *room, *fails, Err(WriteFault::Write)));
+        assert_answer(&rt, *room, *fails, Some(WriteFault::Write));
     }
-    assert!(rt; is_answer(&rt, 25, true, Ok(())));
+    assert_answer(&rt, 25, true, None);
 }
