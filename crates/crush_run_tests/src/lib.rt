@@ -8,3 +8,5 @@ mod editor;
 mod maps;
 #[cfg(test)]
 mod run;
+#[cfg(test)]
+mod texts;

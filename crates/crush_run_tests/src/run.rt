@@ -4,6 +4,7 @@
 //! before and after each call of an operator.
 
 use crate::maps::PLAIN;
+use crate::texts::assert_text;
 use crush_input::{Words, report};
 use crush_options::Mode;
 use crush_run::{Ending, Gate, NoGate, Output, Request, RunFault, Summary, run_job};
@@ -77,20 +78,19 @@ where
     outcome
 }
 
-fn writes(
-    rt: &(impl AllocGlobal + RandomSource + Threads + Wait + Sync),
+fn assert_writes(
+    rt: &(impl Abort + AllocGlobal + RandomSource + Threads + Wait + Sync),
     mode: Mode,
     job: &[u8],
     output: (&[u8], &[u8]),
     summary: Summary,
-) -> bool {
+) {
     let (map, lines) = output;
+    let expected = joined(rt, map, lines);
     let mut out = Vec::new(rt.alloc());
     let outcome = run_map(rt, &NoGate, mode, &mut &*job, &mut out);
-    outcome == Ok(summary)
-        && out.len().checked_sub(map.len()) == Some(lines.len())
-        && out.starts_with(map)
-        && out.ends_with(lines)
+    assert_eq!(rt; outcome, Ok(summary));
+    assert_text(rt, out.as_slice(), expected.as_slice());
 }
 
 /// If there is only one operator, a run in which the operators work at the same time has the same
@@ -100,8 +100,8 @@ fn runs_one_operator_at_once(rt: HostRuntime) {
     let job = joined(&rt, PLAIN, b"%operator a\nreweight osd.2 1.0\n");
     let lines = b"# 1 a reweight osd.2 1.00000 = done changed 1 made 0\n";
     let sum = summary(0, 1, 1);
-    assert!(rt; writes(&rt, MODE, job.as_slice(), (REWEIGHED, lines), sum));
-    assert!(rt; writes(&rt, AT_ONCE, job.as_slice(), (REWEIGHED, lines), sum));
+    assert_writes(&rt, MODE, job.as_slice(), (REWEIGHED, lines), sum);
+    assert_writes(&rt, AT_ONCE, job.as_slice(), (REWEIGHED, lines), sum);
 }
 
 fn summary(adjusted: u32, calls: u32, changes: u32) -> Summary {
@@ -113,12 +113,14 @@ fn summary(adjusted: u32, calls: u32, changes: u32) -> Summary {
     }
 }
 
-fn is_listed(
-    rt: &impl AllocGlobal,
+fn assert_listed(
+    rt: &(impl Abort + AllocGlobal),
     outcome: &Result<Summary, RunFault>,
     line: &[u8],
     status: u8,
-) -> bool {
+) {
     let mut err = Vec::new(rt.alloc());
-    report(Words::none(), outcome, b"", &mut err).status == status && err.as_slice() == line
+    let told = report(Words::none(), outcome, b"", &mut err);
+    assert_eq!(rt; told.status, status);
+    assert_text(rt, err.as_slice(), line);
 }

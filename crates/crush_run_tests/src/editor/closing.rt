@@ -5,6 +5,7 @@ ghost use Rattle.crush_run_tests.specs.Seats.{AreAll};
 
 use super::{opened, started_with, submit_by};
 use crate::maps::PLAIN;
+use crate::texts::assert_text;
 use crush_editor::{Closed, Desk, Editor, Seat, Started};
 use crush_history::{Entry, Line, Script};
 use crush_map::Hashing;
@@ -95,7 +96,7 @@ fn three_operators_by_turns(rt: HostRuntime) {
     let Job { map, scripts, .. } = job(&rt, THREE);
     let started = started_with(&rt, map, 3);
     let closed = close_after::<Brand>(&rt, started, scripts.as_slice());
-    assert!(&rt; is_written(&rt, &closed, CLOSED));
+    assert_written(&rt, &closed, CLOSED);
     assert_debug(&rt, &closed);
 }
 
@@ -140,11 +141,12 @@ fn submit_each<N: Desk>(
     }
 }
 
-fn is_written(rt: &impl AllocGlobal, closed: &Closed<Global>, text: &[u8]) -> bool {
+fn assert_written(rt: &(impl Abort + AllocGlobal), closed: &Closed<Global>, text: &[u8]) {
     let mut out = Vec::new(rt.alloc());
-    put_history(&mut out, closed.history.as_slice())
-        && write_map(rt.alloc(), &closed.map, WeightForm::Rounded, &mut out).is_ok()
-        && out.as_slice() == text
+    let is_put = put_history(&mut out, closed.history.as_slice());
+    assert!(rt; is_put);
+    write_map(rt.alloc(), &closed.map, WeightForm::Rounded, &mut out).expect(rt, "no text");
+    assert_text(rt, out.as_slice(), text);
 }
 
 fn put_history(out: &mut Vec<u8>, history: &[Entry]) -> bool {

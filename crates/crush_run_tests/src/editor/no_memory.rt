@@ -168,10 +168,10 @@ fn write_line(rt: &(impl Abort + AllocGlobal), times: u32) {
         written = written && write!(text, "{line}\n").is_ok();
     }
     drop(call);
-    assert!(rt;
-        written
-            && text.as_bytes()
-                == b"# 1 a reweight osd.0 2.00000 = done changed 1 made 0\n".as_slice()
+    assert!(rt; written);
+    assert_eq!(rt;
+        text.as_str(),
+        "# 1 a reweight osd.0 2.00000 = done changed 1 made 0\n"
     );
 }
 

@@ -1,11 +1,13 @@
 //! Tests runs whose reader or writer fails, and runs whose reader returns more blanks than a job
 //! may have bytes.
 
-use super::{MODE, REWEIGHED, is_listed, joined, run_map};
+use super::{MODE, REWEIGHED, assert_listed, joined, run_map};
 use crate::maps::PLAIN;
+use crate::texts::{assert_begins, assert_text};
 use crush_run::{NoGate, RunFault};
 use crush_script::JobFault;
 use std::io::{self, ErrorKind, Read, Write};
+use std::process::Abort;
 use std::random::RandomSource;
 use std::sync::Wait;
 use std::thread::Threads;
@@ -106,12 +108,12 @@ impl Read for Blanks {
 
 const SCRIPT: &[u8] = b"%operator a\nreweight osd.2 1.0\n";
 
-fn stops_at(
-    rt: &(impl AllocGlobal + RandomSource + Threads + Wait + Sync),
+fn assert_stops_at(
+    rt: &(impl Abort + AllocGlobal + RandomSource + Threads + Wait + Sync),
     job: &[u8],
     fails_at: usize,
     way: Failing,
-) -> bool {
+) {
     let mut reader = FailingReader {
         bytes: job,
         asked: 0,
@@ -120,9 +122,9 @@ fn stops_at(
     };
     let mut out = Vec::new(rt.alloc());
     let outcome = run_map(rt, &NoGate, MODE, &mut reader, &mut out);
-    outcome == Err(RunFault::Read)
-        && out.is_empty()
-        && is_listed(rt, &outcome, b"crushedit: read fault\n", 3)
+    assert_eq!(rt; outcome, Err(RunFault::Read));
+    assert_text(rt, out.as_slice(), b"");
+    assert_listed(rt, &outcome, b"crushedit: read fault\n", 3);
 }
 
 #[test]
@@ -130,20 +132,20 @@ fn stops_at_a_failed_read(rt: HostRuntime) {
     let job = joined(&rt, PLAIN, SCRIPT);
     for fails_at in 0..job.len() / 16 + 1 {
         for way in WAYS {
-            assert!(rt; stops_at(&rt, job.as_slice(), fails_at, way));
+            assert_stops_at(&rt, job.as_slice(), fails_at, way);
         }
     }
 }
 
-/// Whether the run fails with a write fault after the writer has received exactly the first `room`
-/// bytes of the output. `run` has the bytes of a job, and the whole output of this job.
-fn leaves_a_prefix(
-    rt: &(impl AllocGlobal + RandomSource + Threads + Wait + Sync),
+/// Asserts that the run fails with a write fault after the writer has received exactly the first
+/// `room` bytes of the output. `run` has the bytes of a job, and the whole output of this job.
+fn assert_prefix(
+    rt: &(impl Abort + AllocGlobal + RandomSource + Threads + Wait + Sync),
     run: (&[u8], &[u8]),
     room: usize,
     answers_error: bool,
     way: Failing,
-) -> bool {
+) {
     let (job, whole) = run;
     let taken = Vec::new(rt.alloc());
     let mut writer = FailingWriter {
@@ -153,10 +155,10 @@ fn leaves_a_prefix(
         way,
     };
     let outcome = run_map(rt, &NoGate, MODE, &mut &*job, &mut writer);
-    outcome == Err(RunFault::Write)
-        && writer.taken.len() == room
-        && whole.starts_with(writer.taken.as_slice())
-        && is_listed(rt, &outcome, b"crushedit: write fault\n", 3)
+    assert_eq!(rt; outcome, Err(RunFault::Write));
+    assert_eq!(rt; writer.taken.len(), room);
+    assert_begins(rt, whole, writer.taken.as_slice());
+    assert_listed(rt, &outcome, b"crushedit: write fault\n", 3);
 }
 
 #[test]
@@ -167,24 +169,24 @@ fn leaves_a_prefix_at_a_failed_write(rt: HostRuntime) {
     let run = (job.as_slice(), whole.as_slice());
     for room in 0..run.1.len() {
         for way in WAYS {
-            assert!(rt; leaves_a_prefix(&rt, run, room, true, way));
-            assert!(rt; leaves_a_prefix(&rt, run, room, false, way));
+            assert_prefix(&rt, run, room, true, way);
+            assert_prefix(&rt, run, room, false, way);
         }
     }
 }
 
 const LONGEST_JOB: usize = 16_777_216;
 
-fn is_too_long(
-    rt: &(impl AllocGlobal + RandomSource + Threads + Wait + Sync),
+fn assert_too_long(
+    rt: &(impl Abort + AllocGlobal + RandomSource + Threads + Wait + Sync),
     reader: &mut Blanks,
-) -> bool {
+) {
     let mut out = Vec::new(rt.alloc());
     let outcome = run_map(rt, &NoGate, MODE, reader, &mut out);
-    outcome == Err(RunFault::Job(JobFault::TooLong))
-        && reader.left == usize::MAX - LONGEST_JOB - 1
-        && out.is_empty()
-        && is_listed(rt, &outcome, b"crushedit: TooLong\n", 1)
+    assert_eq!(rt; outcome, Err(RunFault::Job(JobFault::TooLong)));
+    assert_eq!(rt; reader.left, usize::MAX - LONGEST_JOB - 1);
+    assert_text(rt, out.as_slice(), b"");
+    assert_listed(rt, &outcome, b"crushedit: TooLong\n", 1);
 }
 
 #[test]
@@ -194,7 +196,7 @@ fn asks_an_endless_reader_for_one_byte_too_many(rt: HostRuntime) {
         most: 1,
         asked: 0,
     };
-    assert!(rt; is_too_long(&rt, &mut reader));
+    assert_too_long(&rt, &mut reader);
     assert_eq!(rt; reader.asked, 16_777_217);
 }
 
@@ -205,5 +207,5 @@ fn takes_one_byte_too_many_of_a_reader_that_fills_what_it_is_given(rt: HostRunti
         most: usize::MAX,
         asked: 0,
     };
-    assert!(rt; is_too_long(&rt, &mut reader));
+    assert_too_long(&rt, &mut reader);
 }

@@ -6,6 +6,7 @@
 use super::at_once::reaches;
 use super::{AT_ONCE, MODE, joined, run_map, summary};
 use crate::maps::PLAIN;
+use crate::texts::assert_ends;
 use crush_run::Gate;
 use std::sync::Wait;
 use std::sync::atomic::{AtomicU64, Ordering};
@@ -103,6 +104,6 @@ fn of_two_guarded_batches_the_later_is_stale(rt: HostRuntime) {
         let missed = gate.missed.load(Ordering::SeqCst);
         assert_eq!(&rt; missed, 0);
         assert_eq!(&rt; outcome, Ok(summary(0, 2, 1)));
-        assert!(&rt; out.ends_with(*lines));
+        assert_ends(&rt, out.as_slice(), *lines);
     }
 }

@@ -2,6 +2,7 @@
 
 use super::at_once::ByTurns;
 use super::{AT_ONCE, joined, run_map, summary};
+use crate::texts::assert_ends;
 use std::process::Abort;
 
 /// The largest number of buckets that a map can have. In the map of this test, each of these
@@ -63,5 +64,6 @@ fn two_operators_edit_the_most_buckets(rt: HostRuntime) {
     let in_order = gate.kept_order();
     assert!(&rt; in_order);
     assert_eq!(&rt; outcome, Ok(summary(0, 4, 4)));
+    assert_ends(&rt, out.as_slice(), TWO_PARTS);
     assert!(&rt; out == expected);
 }

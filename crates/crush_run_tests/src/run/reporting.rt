@@ -1,7 +1,8 @@
 //! Tests what a run writes to standard error. Also tests what the program writes to standard output
 //! and to standard error if a command line starts no run, for example because it requests help.
 
-use crate::run::is_listed;
+use crate::run::assert_listed;
+use crate::texts::assert_text;
 use crush_input::{Aborted, VerbMap, VerbMapFault, VerbMapRefusal, Words, report, report_options};
 use crush_options::OptionsFault;
 use crush_run::{RunFault, Summary};
@@ -16,8 +17,8 @@ use std::process::Abort;
 fn reports_what_no_run_here_comes_to(rt: HostRuntime) {
     let of_job = Err(RunFault::Job(JobFault::OutOfMemory));
     let line = b"crushedit: out of memory\n";
-    assert!(rt; is_listed(&rt, &Err(RunFault::Memory), line, 4));
-    assert!(rt; is_listed(&rt, &of_job, line, 4));
+    assert_listed(&rt, &Err(RunFault::Memory), line, 4);
+    assert_listed(&rt, &of_job, line, 4);
     assert_eq!(rt; RunFault::from(WriteFault::OutOfMemory), RunFault::Memory);
     assert_eq!(rt; RunFault::from(AllocError), RunFault::Memory);
 }
@@ -45,7 +46,7 @@ fn the_text_of_a_refusal_is_the_text_of_its_fault(rt: HostRuntime) {
 
 #[test]
 fn tells_of_a_thread_that_was_not_started(rt: HostRuntime) {
-    assert!(rt; is_listed(&rt, &Err(RunFault::Thread), b"crushedit: no thread\n", 4));
+    assert_listed(&rt, &Err(RunFault::Thread), b"crushedit: no thread\n", 4);
 }
 
 fn differing(adjusted: u32) -> Summary {
@@ -60,13 +61,17 @@ fn differing(adjusted: u32) -> Summary {
 #[test]
 fn counts_what_ended_a_run_and_has_a_status_of_what_differs(rt: HostRuntime) {
     let (made, stays) = (Err(RunFault::Made(3)), Err(RunFault::Differs(7)));
-    assert!(rt; is_listed(&rt, &made, b"crushedit: made 3\n", 5));
-    assert!(rt; is_listed(&rt, &stays, b"crushedit: differs 7\n", 5));
-    assert!(rt; is_listed(&rt, &Ok(differing(0)), b"", 6));
-    assert!(rt; is_listed(&rt, &Ok(differing(7)), b"crushedit: adjusted 7\n", 6));
+    assert_listed(&rt, &made, b"crushedit: made 3\n", 5);
+    assert_listed(&rt, &stays, b"crushedit: differs 7\n", 5);
+    assert_listed(&rt, &Ok(differing(0)), b"", 6);
+    assert_listed(&rt, &Ok(differing(7)), b"crushedit: adjusted 7\n", 6);
 }
 
-fn is_explained(rt: &impl AllocGlobal, outcome: &Result<Summary, RunFault>, told: &[u8]) -> bool {
+fn assert_explained(
+    rt: &(impl Abort + AllocGlobal),
+    outcome: &Result<Summary, RunFault>,
+    told: &[u8],
+) {
     let mut err = Vec::new(rt.alloc());
     let words = Words {
         explain: true,
@@ -75,21 +80,20 @@ fn is_explained(rt: &impl AllocGlobal, outcome: &Result<Summary, RunFault>, told
         class: "",
     };
     report(words, outcome, b"", &mut err);
-    err.as_slice() == told
+    assert_text(rt, err.as_slice(), told);
 }
 
 #[test]
 fn runs_that_were_not_done_are_told_with_reasons(rt: HostRuntime) {
-    assert!(rt;
-        is_explained(
-            &rt,
-            &Err(RunFault::Thread),
-            b"crushedit: no thread\n  the system couldn't start a thread for an operator: try --in-turn\n"
-        ) && is_explained(
-            &rt,
-            &Err(RunFault::Memory),
-            b"crushedit: out of memory\n  not enough memory for the job\n"
-        )
+    assert_explained(
+        &rt,
+        &Err(RunFault::Thread),
+        b"crushedit: no thread\n  the system couldn't start a thread for an operator: try --in-turn\n",
+    );
+    assert_explained(
+        &rt,
+        &Err(RunFault::Memory),
+        b"crushedit: out of memory\n  not enough memory for the job\n",
     );
 }
 
@@ -113,23 +117,24 @@ fn keeps_the_status_where_standard_error_fails(rt: HostRuntime) {
     let told = report(Words::none(), &Err(RunFault::Read), b"", &mut room);
     assert_eq!(rt; told.status, 3);
     assert!(rt; told.written.is_err());
-    assert!(rt; held == *b"crushedit: rea");
+    assert_text(&rt, held.as_slice(), b"crushedit: rea");
     let closed = report(Words::none(), &Err(RunFault::Memory), b"", &mut Closed);
     assert_eq!(rt; closed.status, 4);
 }
 
-fn is_ended(
-    rt: &impl AllocGlobal,
+fn assert_ended(
+    rt: &(impl Abort + AllocGlobal),
     fault: &OptionsFault,
     output: &str,
     error: &str,
     status: u8,
-) -> bool {
+) {
     let mut out = Vec::new(rt.alloc());
     let mut err = Vec::new(rt.alloc());
-    report_options(fault, &mut out, &mut err) == status
-        && out.as_slice() == output.as_bytes()
-        && err.as_slice() == error.as_bytes()
+    let told = report_options(fault, &mut out, &mut err);
+    assert_eq!(rt; told, status);
+    assert_text(rt, out.as_slice(), output.as_bytes());
+    assert_text(rt, err.as_slice(), error.as_bytes());
 }
 
 const HELP: &str = "Usage: crushedit [OPTIONS] [FILE]\n\nOptions:\n  -h, --help  Print help\n";
@@ -147,18 +152,24 @@ fn command_lines_without_a_run_are_told_whole(rt: HostRuntime) {
     let help = OptionsFault::Help(owned(&rt, HELP));
     let refused = OptionsFault::Refused(owned(&rt, REFUSAL));
     let memory = OptionsFault::Memory;
-    let are_ended = is_ended(&rt, &help, HELP, "", 0)
-        && is_ended(&rt, &refused, "", REFUSAL, 2)
-        && is_ended(&rt, &memory, "", "crushedit: out of memory\n", 4)
-        && report_options(&refused, &mut Closed, &mut Closed) == 2;
+    assert_ended(&rt, &help, HELP, "", 0);
+    assert_ended(&rt, &refused, "", REFUSAL, 2);
+    assert_ended(&rt, &memory, "", "crushedit: out of memory\n", 4);
+    let status = report_options(&refused, &mut Closed, &mut Closed);
     drop(help);
     drop(refused);
-    assert!(rt; are_ended);
+    assert_eq!(rt; status, 2);
 }
 
-fn is_write_fault<W: Write>(rt: &impl AllocGlobal, fault: &OptionsFault, out: &mut W) -> bool {
+fn assert_write_fault<W: Write>(
+    rt: &(impl Abort + AllocGlobal),
+    fault: &OptionsFault,
+    out: &mut W,
+) {
     let mut err = Vec::new(rt.alloc());
-    report_options(fault, out, &mut err) == 3 && err.as_slice() == WRITE_FAULT
+    let status = report_options(fault, out, &mut err);
+    assert_eq!(rt; status, 3);
+    assert_text(rt, err.as_slice(), WRITE_FAULT);
 }
 
 #[test]
@@ -166,18 +177,16 @@ fn help_that_cannot_be_written_is_a_write_fault(rt: HostRuntime) {
     let help = OptionsFault::Help(owned(&rt, HELP));
     let mut held = [0u8; 14];
     let mut room = held.as_mut_slice();
-    let are_write_faults = is_write_fault(&rt, &help, &mut Closed)
-        && is_write_fault(&rt, &help, &mut room);
+    assert_write_fault(&rt, &help, &mut Closed);
+    assert_write_fault(&rt, &help, &mut room);
     drop(help);
-    assert!(rt; are_write_faults);
-    assert!(rt; held == *b"Usage: crushed");
+    assert_text(&rt, held.as_slice(), b"Usage: crushed");
 }
 
 fn assert_told(rt: &(impl Abort + AllocGlobal), fault: RunFault, status: u8) {
     let line = format!(in rt.alloc(); "crushedit: {fault}\n").expect(rt, "no memory");
-    let is_told = is_listed(rt, &Err(fault), line.as_bytes(), status);
+    assert_listed(rt, &Err(fault), line.as_bytes(), status);
     drop(line);
-    assert!(rt; is_told);
 }
 
 #[test]

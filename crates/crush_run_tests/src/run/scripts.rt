@@ -4,6 +4,7 @@
 
 use super::{joined, summary};
 use crate::maps::PLAIN;
+use crate::texts::assert_text;
 use crush_options::options;
 use crush_run::{Opens, RunFault, Summary, run_options};
 use crush_script::{BadLine, Due, JobFault, Misfit};
@@ -36,15 +37,15 @@ impl<'a> Opens for Shelf<'a> {
     }
 }
 
-/// Runs the script in the file `name` on the map in the file `m`. Returns whether the run has this
+/// Runs the script in the file `name` on the map in the file `m`. Asserts that the run has this
 /// outcome and this output, and no notes.
-fn ends_so(
+fn assert_run(
     rt: &(impl Abort + AllocGlobal + RandomSource + Threads + Wait + Sync),
     name: &str,
     script: &[u8],
     outcome: Result<Summary, RunFault>,
     output: &[u8],
-) -> bool {
+) {
     let Ok(options) = options(rt.alloc(), &["m", "-s", name]) else {
         panic!(rt; "the words are refused")
     };
@@ -53,9 +54,10 @@ fn ends_so(
     let mut input: &[u8] = b"";
     let ending = run_options(rt, &Shelf { files }, &options, &mut input, &mut out);
     drop(options);
-    let has_ended_so = ending.outcome == outcome && ending.notes.is_empty();
+    assert_eq!(rt; ending.outcome, outcome);
+    assert_text(rt, ending.notes.as_slice(), b"");
     drop(ending);
-    has_ended_so && out.as_slice() == output
+    assert_text(rt, out.as_slice(), output);
 }
 
 const ALICE: &[u8] = b"reweight osd.2 1.0";
@@ -82,9 +84,9 @@ fn a_file_whose_name_is_no_operators_is_a_bad_line(rt: HostRuntime) {
     let refused = Err(RunFault::Job(JobFault::BadLine { line: 42, why }));
     for name in NAMELESS {
         let output = joined(&rt, PLAIN, BOB_LINE);
-        assert!(&rt; ends_so(&rt, name, ALICE, refused, b""));
-        assert!(&rt; ends_so(&rt, name, b"", refused, b""));
-        assert!(&rt; ends_so(&rt, name, BOB, Ok(summary(0, 1, 0)), output.as_slice()));
+        assert_run(&rt, name, ALICE, refused, b"");
+        assert_run(&rt, name, b"", refused, b"");
+        assert_run(&rt, name, BOB, Ok(summary(0, 1, 0)), output.as_slice());
     }
 }
 
@@ -147,6 +149,6 @@ fn the_files_of_a_job_are_read_up_to_one_limit(rt: HostRuntime) {
     drop(ending);
     let count = taken.load(Ordering::SeqCst);
     assert_eq!(rt; outcome, Err(RunFault::Job(JobFault::TooLong)));
-    assert!(rt; out.is_empty());
+    assert_text(&rt, out.as_slice(), b"");
     assert_eq!(rt; count, 16_777_217);
 }

@@ -4,12 +4,14 @@
 
 use super::scripts::Shelf;
 use crate::maps::PLAIN;
+use crate::texts::{assert_begins, assert_text};
 use crush_input::{
     RunFault, SecondMap, SecondMapFault, VerbMap, VerbMapRefusal, check_verb_map, file_notes,
     may_precede_maps, read_verb_map, report_verb_map,
 };
 use crush_options::MapForm;
 use std::io::ErrorKind;
+use std::process::Abort;
 use std::random::RandomSource;
 
 const CUT_OLD: &[u8] =
@@ -31,46 +33,48 @@ fn read(
     read_verb_map(rt, &Shelf { files }, maps, map, "m", "m")
 }
 
-fn is_read(rt: &(impl AllocGlobal + RandomSource), maps: MapForm, bytes: &[u8]) -> bool {
+fn assert_read(rt: &(impl Abort + AllocGlobal + RandomSource), maps: MapForm, bytes: &[u8]) {
     match read(rt, maps, VerbMap::First, bytes) {
-        Ok(read) => read.as_slice() == bytes,
-        Err(_) => false,
+        Ok(read) => assert_text(rt, read.as_slice(), bytes),
+        Err(_) => panic!(rt; "the map is refused"),
     }
 }
 
-fn is_told(
-    rt: &(impl AllocGlobal + RandomSource),
+fn assert_told(
+    rt: &(impl Abort + AllocGlobal + RandomSource),
     map: VerbMap,
     bytes: &[u8],
     told: &[u8],
     status: u8,
-) -> bool {
+) {
     let Err(refusal) = read(rt, MapForm::WholeMap, map, bytes) else {
-        return false;
+        panic!(rt; "the map is read")
     };
     let mut err = Vec::new(rt.alloc());
     let outcome = report_verb_map(&refusal, &mut err);
     drop(refusal);
-    outcome.status == status && outcome.written.is_ok() && err.as_slice() == told
+    assert_eq!(rt; outcome.status, status);
+    assert!(rt; outcome.written.is_ok());
+    assert_text(rt, err.as_slice(), told);
 }
 
 #[test]
 fn whole_maps_are_read(rt: HostRuntime) {
-    assert!(rt; is_read(&rt, MapForm::WholeMap, PLAIN));
-    assert!(rt; is_read(&rt, MapForm::WholeMap, b"# end crush map"));
-    assert!(rt; is_read(&rt, MapForm::WholeMap, b"# end crush map \t\r\n\n  \n"));
-    assert!(rt; is_read(&rt, MapForm::Map, BEGUN));
-    assert!(rt; is_read(&rt, MapForm::Map, b""));
+    assert_read(&rt, MapForm::WholeMap, PLAIN);
+    assert_read(&rt, MapForm::WholeMap, b"# end crush map");
+    assert_read(&rt, MapForm::WholeMap, b"# end crush map \t\r\n\n  \n");
+    assert_read(&rt, MapForm::Map, BEGUN);
+    assert_read(&rt, MapForm::Map, b"");
 }
 
 #[test]
 fn maps_that_may_be_cut_are_told(rt: HostRuntime) {
-    assert!(rt; is_told(&rt, VerbMap::First, b"", CUT, 1));
-    assert!(rt; is_told(&rt, VerbMap::Old, BEGUN, CUT_OLD, 1));
-    assert!(rt; is_told(&rt, VerbMap::First, b"# end crush map\n# more\n", CUT, 1));
+    assert_told(&rt, VerbMap::First, b"", CUT, 1);
+    assert_told(&rt, VerbMap::Old, BEGUN, CUT_OLD, 1);
+    assert_told(&rt, VerbMap::First, b"# end crush map\n# more\n", CUT, 1);
     let quoted = b"tunable a 1\n ## end crush map\n";
-    assert!(rt; is_told(&rt, VerbMap::First, quoted, CUT, 1));
-    assert!(rt; is_told(&rt, VerbMap::First, b"tunable a 1\ntunable b", CUT, 1));
+    assert_told(&rt, VerbMap::First, quoted, CUT, 1);
+    assert_told(&rt, VerbMap::First, b"tunable a 1\ntunable b", CUT, 1);
 }
 
 #[test]
@@ -84,10 +88,10 @@ fn flaws_are_told_by_the_check(rt: HostRuntime) {
     let status = report_verb_map(&refusal, &mut err).status;
     drop(refusal);
     let flaw = b"crushedit: old: byte 0: UnknownType\n  m line 1, column 1\n";
-    assert!(rt; is_read(&rt, MapForm::WholeMap, text));
+    assert_read(&rt, MapForm::WholeMap, text);
     assert!(rt; check_verb_map(&rt, MapForm::WholeMap, VerbMap::First, "m", PLAIN).is_ok());
     assert_eq!(rt; status, 1);
-    assert!(rt; err.as_slice().starts_with(flaw));
+    assert_begins(&rt, err.as_slice(), flaw);
 }
 
 #[test]
@@ -111,10 +115,10 @@ fn flaws_and_scripts_are_told(rt: HostRuntime) {
     let status = report_verb_map(&refusal, &mut err).status;
     drop(refusal);
     let text = b"# end crush map\n%operator a\n";
-    assert!(rt; is_told(&rt, VerbMap::Wanted, text, script, 1));
+    assert_told(&rt, VerbMap::Wanted, text, script, 1);
     assert_eq!(rt; status, 1);
     let flaw = b"crushedit: byte 0: UnknownType\n  m line 1, column 1\n";
-    assert!(rt; err.as_slice().starts_with(flaw));
+    assert_begins(&rt, err.as_slice(), flaw);
 }
 
 #[test]
@@ -124,8 +128,8 @@ fn files_that_fail_are_noted(rt: HostRuntime) {
         file_notes(rt.alloc(), true, "m", &error),
         file_notes(rt.alloc(), false, "m", &error),
     );
-    let is_noted = noted.is_ok_and(|notes| notes.as_slice().starts_with(b"  m: "));
-    let is_quiet = quiet.is_ok_and(|notes| notes.is_empty());
+    let noted = noted.expect(&rt, "no memory");
+    let quiet = quiet.expect(&rt, "no memory");
     let files: &[(&str, &[u8])] = &[];
     let read = read_verb_map(&rt, &Shelf { files }, MapForm::Map, VerbMap::Old, "m", "m");
     let Err(refusal) = read else {
@@ -134,9 +138,9 @@ fn files_that_fail_are_noted(rt: HostRuntime) {
     let mut err = Vec::new(rt.alloc());
     let status = report_verb_map(&refusal, &mut err).status;
     drop(refusal);
-    assert!(rt; is_noted);
-    assert!(rt; is_quiet);
+    assert_begins(&rt, noted.as_slice(), b"  m: ");
+    assert_text(&rt, quiet.as_slice(), b"");
     assert_eq!(rt; status, 3);
     let fault = b"crushedit: old: read fault\n  m: ";
-    assert!(rt; err.as_slice().starts_with(fault));
+    assert_begins(&rt, err.as_slice(), fault);
 }
