@@ -160,14 +160,15 @@ const TWO_SCRIPTS: &[u8] =
 
 fn assert_lines(rt: &impl Abort, lines: &[Vec<u32>]) {
     assert_eq!(rt; lines.len(), 3);
-    let (a, b, c) = (&lines[0], &lines[1], &lines[2]);
-    assert_eq!(rt; a.len(), 3);
-    assert_eq!(rt; a[0], 4);
-    assert_eq!(rt; a[1], 6);
-    assert_eq!(rt; a[2], 8);
-    assert_eq!(rt; b.len(), 0);
-    assert_eq!(rt; c.len(), 1);
-    assert_eq!(rt; c[0], 12);
+    assert_eq!(rt; lines[1].len(), 0);
+    let first = lines[0].as_slice();
+    assert_eq!(rt; first.len(), 3);
+    assert_eq!(rt; first[0], 4);
+    assert_eq!(rt; first[1], 6);
+    assert_eq!(rt; first[2], 8);
+    let last = lines[2].as_slice();
+    assert_eq!(rt; last.len(), 1);
+    assert_eq!(rt; last[0], 12);
 }
 
 #[test]
