@@ -65,5 +65,6 @@ fn two_operators_edit_the_most_buckets(rt: HostRuntime) {
     assert!(&rt; in_order);
     assert_eq!(&rt; outcome, Ok(summary(0, 4, 4)));
     assert_ends(&rt, out.as_slice(), TWO_PARTS);
+    // A failure of this assertion shows no text, because the text of the map is too long.
     assert!(&rt; out == expected);
 }
