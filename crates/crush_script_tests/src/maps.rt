@@ -1,5 +1,5 @@
-//! Parses the text of a map. This file also has the example map, with which the tests of plans and
-//! of documents begin.
+//! Parses the text of a map. This file also has the example map, which tests of plans, documents and
+//! conflicts use.
 
 use crush_map::CrushMap;
 use crush_text::read_map;
