@@ -1,6 +1,6 @@
 //! Tests plans, which are lists of commands that change one map into another map. The plans lead
-//! from the example map to other maps. The expected values were worked out by hand from the steps of
-//! a plan in docs/dev/plan.md. Most plans are in the sessions of tests/runs/.
+//! from the example map to other maps. The expected values were worked out by hand from the steps
+//! of a plan in docs/dev/plan.md. The sessions of tests/runs/plans.txt show further plans.
 
 mod maps;
 mod names_part;

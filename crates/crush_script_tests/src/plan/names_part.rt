@@ -6,8 +6,8 @@ use crate::plan::maps::*;
 use crush_since::{count_aside, push_stays, stays_part};
 use std::process::Abort;
 
-/// Returns the lines about the part h1 of the map of the text `map` and of the example map, which is
-/// the wanted map.
+/// Returns the lines about the differences between the part h1 of the map with the text `map` and
+/// the part h1 of the example map, which is the wanted map.
 fn stays_of_h1(rt: &(impl Abort + AllocGlobal), map: &[u8]) -> Vec<u8> {
     let map = map_of(rt, map);
     let wanted = map_of(rt, EXAMPLE_MAP);
