@@ -1,7 +1,8 @@
 //! Tests the example map: how the map is built, and how edits change the map, in the global
-//! allocator and in small heaps. The jobs in `examples/worked` show the results of more edits. A
-//! test calls `drop` for each map, builder and edit that it owns. So the proof that the parts of
-//! such a value are freed is needed in one place only.
+//! allocator and in small heaps. The jobs in `examples/worked` and the sessions in
+//! `tests/runs/maps.txt` show the results of more edits. A test calls `drop` for each map, builder
+//! and edit that it owns. So the proof that the parts of such a value are freed is needed in one
+//! place only.
 
 mod asking;
 mod building;
@@ -15,4 +16,3 @@ mod memory;
 mod same;
 mod statements;
 mod whole;
-mod worked;

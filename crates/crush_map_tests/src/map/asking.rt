@@ -229,7 +229,7 @@ pub(super) fn are_true_of<A: Allocator>(
     }
 }
 
-pub(super) fn make_batch<A: Allocator + Clone>(
+fn make_batch<A: Allocator + Clone>(
     rt: &impl Abort,
     map: &mut CrushMap<A>,
     edits: &[Edit],

@@ -2,9 +2,7 @@
 //! If memory runs out, the map must be unchanged. When there is enough memory again, the same call
 //! must have its usual result. A call that is refused must also leave the map unchanged.
 
-use crate::map::asking::{
-    Asked, CHANGED, Fact, Told, answer, are_true_of, edit, edits, make_batch,
-};
+use crate::map::asking::{Asked, CHANGED, Fact, Told, answer, are_true_of, edit, edits};
 use crate::map::same::has_the_same;
 use crate::map::whole::{whole_example_map, whole_example_map_in};
 use crush_map::{BatchFault, CrushMap, Done, Dones, Edit, EditFault, Refusal};
@@ -463,22 +461,4 @@ fn lack_behind_weights(rt: &impl Abort, alloc: Global, calls: &[Call]) {
 #[test]
 fn memory_lacks_for_batches_of_weights(rt: HostRuntime) {
     lack_behind_weights(&rt, rt.alloc(), WEIGHTS);
-}
-
-const LAST: &[Fact] = &[Fact::Holds("default", &["h1", "h2"], 163839)];
-
-#[test]
-fn as_many_edits_as_there_may_be(rt: HostRuntime) {
-    let edits = new_weights(&rt, rt.alloc(), 65536);
-    let mut map = whole_example_map(&rt, rt.alloc());
-    let told = make_batch(&rt, &mut map, edits.as_slice());
-    drop(edits);
-    are_true_of(&rt, &map, 0, LAST);
-    drop(map);
-    let all = Dones {
-        edits: 65536,
-        changed: 65536,
-        made: 0,
-    };
-    assert_eq!(rt; told, Ok(all));
 }

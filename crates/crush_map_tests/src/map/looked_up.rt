@@ -10,8 +10,8 @@ use std::process::Abort;
 /// Each name that an item has before or after an edit of the tests that use this list, each name
 /// that such an edit mentions, and the name `x`, which no item has.
 pub(super) const NAMES: &[&str] = &[
-    "osd.0", "osd.1", "osd.2", "osd.3", "osd.10", "osd.11", "osd.12", "osd.13", "h1", "h2", "h3",
-    "h9", "hq", "hx", "hy", "r1", "r9", "rx", "default", "other", "x",
+    "osd.0", "osd.1", "osd.2", "osd.3", "osd.10", "osd.11", "h1", "h2", "h3", "h9", "hq", "hx",
+    "r1", "r9", "default", "x",
 ];
 
 const EDITS: &[Asked] = &[
@@ -73,7 +73,7 @@ fn assert_looked_up(rt: &impl Abort, map: &CrushMap<Global>, place: usize, name:
     }
 }
 
-pub(super) fn assert_all_looked_up(rt: &impl Abort, map: &CrushMap<Global>, place: usize) {
+fn assert_all_looked_up(rt: &impl Abort, map: &CrushMap<Global>, place: usize) {
     for name in NAMES {
         assert_looked_up(rt, map, place, name);
     }
