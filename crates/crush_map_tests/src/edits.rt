@@ -1,10 +1,9 @@
-//! Tests locations up to their greatest length, copies of each kind of edit, `==`, the texts of
-//! edits, refusals, and settings.
+//! Tests locations, copies of edits and `==`, the texts of faults, refusals, words of commands, and
+//! settings.
 
 use crush_edits::*;
-use crush_units::limits::MOST_PAIRS;
 use crush_units::{DeviceId, Name, TypeId, Weight};
-use std::alloc::{AllocGlobal, Global};
+use std::alloc::Global;
 use std::process::Abort;
 
 fn assert_leads_to_a_host(rt: &impl Abort, at: &Location) {
@@ -14,28 +13,12 @@ fn assert_leads_to_a_host(rt: &impl Abort, at: &Location) {
     assert_eq!(rt; pairs[1].name.as_str(), "default");
 }
 
-fn assert_takes_two(rt: &impl Abort, at: &mut Location) {
-    at.push(b"host", b"h1").expect(rt, "a pair");
-    at.push(b"root", b"default").expect(rt, "a pair");
-    assert_eq!(rt; at.push(b"", b"h1"), Err(LocationFault::BadName));
-    assert_eq!(rt; at.push(b"host", b"h 1"), Err(LocationFault::BadName));
-    assert_leads_to_a_host(rt, at);
-}
-
-fn assert_full(rt: &impl Abort, at: &mut Location) {
-    for _ in 2..MOST_PAIRS {
-        at.push(b"host", b"h1").expect(rt, "a pair");
-    }
-    assert_eq!(rt; at.pairs().len(), 16);
-    assert_eq!(rt; at.push(b"host", b"h1"), Err(LocationFault::TooMany));
-    assert_eq!(rt; at.push(b"", b""), Err(LocationFault::TooMany));
-}
-
 #[test]
 fn locations(rt: HostRuntime) {
     let mut at = Location::new(rt.alloc());
-    assert_takes_two(&rt, &mut at);
-    assert_full(&rt, &mut at);
+    at.push(b"host", b"h1").expect(&rt, "a pair");
+    at.push(b"root", b"default").expect(&rt, "a pair");
+    assert_leads_to_a_host(&rt, &at);
     drop(at);
 }
 
@@ -43,123 +26,23 @@ fn name(rt: &impl Abort, alloc: Global, text: &str) -> Name<Global> {
     Name::read(alloc, text.as_bytes()).expect(rt, text)
 }
 
-fn at_h1(rt: &impl Abort, alloc: Global) -> Location {
+fn add_in_h1(rt: &impl Abort, alloc: Global, number: i32) -> Edit {
+    let device = DeviceId::new(number).expect(rt, "a device");
     let mut at = Location::new(alloc);
     at.push(b"host", b"h1").expect(rt, "a pair");
-    at
-}
-
-fn placing_edits(rt: &impl Abort, alloc: Global) -> [Edit; 3] {
-    let device = DeviceId::new(7).expect(rt, "a device");
-    let weight = Weight::from_units(65536);
-    [
-        Edit::place(Placing::Insert, device, weight, at_h1(rt, alloc)),
-        Edit::place(Placing::CreateOrMove, device, weight, at_h1(rt, alloc)),
-        Edit::place(Placing::Update, device, weight, at_h1(rt, alloc)),
-    ]
-}
-
-fn other_edits(rt: &impl Abort, alloc: Global) -> [Edit; 9] {
-    let weight = Weight::from_units(65536);
-    [
-        Edit::Move {
-            name: name(rt, alloc, "h2"),
-            at: at_h1(rt, alloc),
-        },
-        Edit::Swap {
-            a: name(rt, alloc, "h1"),
-            b: name(rt, alloc, "h2"),
-        },
-        Edit::Reweight {
-            name: name(rt, alloc, "osd.3"),
-            weight,
-        },
-        Edit::ReweightSubtree {
-            name: name(rt, alloc, "h1"),
-            weight,
-        },
-        Edit::Remove {
-            name: name(rt, alloc, "h1"),
-        },
-        Edit::AddBucket {
-            name: name(rt, alloc, "h9"),
-            kind: name(rt, alloc, "host"),
-        },
-        Edit::Rename {
-            from: name(rt, alloc, "h1"),
-            to: name(rt, alloc, "hq"),
-        },
-        Edit::SetClass {
-            name: name(rt, alloc, "osd.3"),
-            class: name(rt, alloc, "ssd"),
-        },
-        Edit::RemoveClass {
-            name: name(rt, alloc, "osd.3"),
-        },
-    ]
-}
-
-fn assert_copied(rt: &impl Abort, alloc: Global, edits: &[Edit]) {
-    for edit in edits {
-        let copy = edit.try_copy(alloc).expect(rt, "memory");
-        assert_eq!(rt; copy, *edit);
-        drop(copy);
-    }
+    Edit::place(Placing::Insert, device, Weight::from_units(65536), at)
 }
 
 #[test]
 fn copies(rt: HostRuntime) {
-    let placing = placing_edits(&rt, rt.alloc());
-    assert_copied(&rt, rt.alloc(), &placing);
-    drop(placing);
-    let others = other_edits(&rt, rt.alloc());
-    assert_copied(&rt, rt.alloc(), &others);
-    drop(others);
-}
-
-#[test]
-fn locations_are_equal_if_their_pairs_are(rt: HostRuntime) {
-    let at = at_h1(&rt, rt.alloc());
-    let mut other = at_h1(&rt, rt.alloc());
-    assert_eq!(rt; at, other);
-    other.push(b"host", b"h2").expect(&rt, "a pair");
-    assert_ne!(rt; at, other);
+    let edit = add_in_h1(&rt, rt.alloc(), 7);
+    let other = add_in_h1(&rt, rt.alloc(), 4);
+    let copy = edit.try_copy(rt.alloc()).expect(&rt, "memory");
+    assert_eq!(rt; copy, edit);
+    assert_ne!(rt; copy, other);
+    drop(copy);
     drop(other);
-    drop(at);
-}
-
-fn set_osd(rt: &impl Abort, alloc: Global, name_text: &str, units: u32, host: &str) -> Edit {
-    let mut at = Location::new(alloc);
-    at.push(b"host", host.as_bytes()).expect(rt, "a pair");
-    Edit::Place {
-        how: Placing::Update,
-        device: DeviceId::new(7).expect(rt, "a device"),
-        name: name(rt, alloc, name_text),
-        weight: Weight::from_units(units),
-        at,
-    }
-}
-
-fn assert_differs(rt: &impl Abort, edit: &Edit, other: Edit) {
-    assert_ne!(rt; *edit, other);
-    drop(other);
-}
-
-#[test]
-fn edits_are_equal_if_each_field_is(rt: HostRuntime) {
-    let [add, choose, set] = placing_edits(&rt, rt.alloc());
-    let same = set_osd(&rt, rt.alloc(), "osd.7", 65536, "h1");
-    assert_eq!(rt; set, same);
-    drop(same);
-    assert_differs(&rt, &set, add);
-    assert_differs(&rt, &set, choose);
-    let other = set_osd(&rt, rt.alloc(), "osd.4", 65536, "h1");
-    assert_differs(&rt, &set, other);
-    let other = set_osd(&rt, rt.alloc(), "osd.7", 65537, "h1");
-    assert_differs(&rt, &set, other);
-    let other = set_osd(&rt, rt.alloc(), "osd.7", 65536, "h2");
-    assert_differs(&rt, &set, other);
-    drop(set);
+    drop(edit);
 }
 
 fn assert_name_and_numbers(rt: &impl Abort, refusal: Refusal, name: &str, number: u8, error: u8) {
@@ -188,35 +71,6 @@ fn faults_say_why(rt: HostRuntime) {
         "the edit is refused: the device has a different class: remove this class first with rm-device-class; edit 1 is refused: a bucket can't be moved below itself";
     assert_eq!(rt; told.as_str(), text);
     drop(told);
-}
-
-fn move_h1(rt: &impl Abort, alloc: Global) -> Edit {
-    let mut at = Location::new(alloc);
-    at.push(b"rack", b"r1").expect(rt, "a pair");
-    at.push(b"root", b"default").expect(rt, "a pair");
-    Edit::Move {
-        name: name(rt, alloc, "h1"),
-        at,
-    }
-}
-
-fn assert_printed(rt: &(impl Abort + AllocGlobal), edit: &Edit, text: &str) {
-    let printed = format!(in rt.alloc(); "{edit}").expect(rt, "memory");
-    assert_eq!(rt; printed.as_str(), text);
-    drop(printed);
-}
-
-#[test]
-fn edits_are_printed_as_commands(rt: HostRuntime) {
-    let edits = placing_edits(&rt, rt.alloc());
-    let [add, choose, set] = &edits;
-    assert_printed(&rt, add, "add osd.7 1.00000 host=h1");
-    assert_printed(&rt, choose, "create-or-move osd.7 1.00000 host=h1");
-    assert_printed(&rt, set, "set osd.7 1.00000 host=h1");
-    drop(edits);
-    let moved = move_h1(&rt, rt.alloc());
-    assert_printed(&rt, &moved, "move h1 rack=r1 root=default");
-    drop(moved);
 }
 
 #[test]
