@@ -29,7 +29,7 @@ trap 'exit 1' HUP INT TERM
 # The licence, the pages, the example maps, and the test of the recipe. Below share/doc/crushedit, these files have the
 # same paths as in this repository, so that the links between them lead to the right files.
 documents=$(cd "$top" && ls LICENSE ./*.md bench/*.md crates/*.md docs/*.md docs/*/*.md examples/*.md tests/*.md tools/*.md \
-    examples/*.txt tests/recipe_test.* tests/stand_ins.py)
+    examples/*.txt tests/recipe_test.* tests/limited.py tests/stand_ins.py)
 
 # lay ROOT: copies all files into the folder ROOT, with the paths that they have below /usr after an installation.
 lay() {

@@ -39,13 +39,13 @@ import os
 import pathlib
 import random
 import re
-import subprocess
 import sys
 import tempfile
 
 from at_once import fault_of, job_text, made_by, random_scripts
 from chance import Dice, call_lines, random_call, random_job, random_map
 from explained import is_reason
+from limited import LimitReached, run_limited
 from looking import first_line, history_of, is_refusal, reasons
 from model import Map, run_call
 from reading import joined, outcome, read_job, read_since
@@ -137,7 +137,7 @@ def any_job(dice, examples, refused):
 
 
 def run(program, flags, text, folder=None):
-    ran = subprocess.run([program, *flags], input=text.encode("latin-1"), cwd=folder, capture_output=True, timeout=60)
+    ran = run_limited([program, *flags], input=text.encode("latin-1"), cwd=folder, capture_output=True)
     return ran.returncode, ran.stdout.decode("latin-1"), ran.stderr.decode("latin-1")
 
 
@@ -369,7 +369,10 @@ def compare(program, count, seed):
         kinds = [name for name, _ in drawn]
         for name, case in drawn:
             due = outcome(*case)
-            wrong = difference(program, case, due)
+            try:
+                wrong = difference(program, case, due)
+            except LimitReached as limit:
+                wrong = limit
             if wrong:
                 sys.stdout.reconfigure(errors="backslashreplace")
                 print(*case, f"--- {wrong}", sep="\n--- ")

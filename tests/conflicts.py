@@ -20,11 +20,11 @@ The test prints how many jobs have lost changes, and how many jobs are wrong. Th
 
 import os
 import random
-import subprocess
 import sys
 import tempfile
 
 from chance import Dice, random_call, random_map
+from limited import LimitReached, run_limited
 from looking import type_name
 from model import is_change, run_call, text_of
 from reading import read_map
@@ -167,7 +167,7 @@ def any_job(dice, index):
 
 
 def run(program, folder, words):
-    ran = subprocess.run([program, *words], cwd=folder, capture_output=True, timeout=60)
+    ran = run_limited([program, *words], cwd=folder, capture_output=True)
     return ran.returncode, ran.stdout.decode("latin-1"), ran.stderr.decode("latin-1")
 
 
@@ -202,7 +202,10 @@ def main(program, jobs=400, seed=None):
         map, scripts = any_job(Dice(f"{seed} {index}"), index)
         told += bool(conflict_lines(map, scripts)[0])
         with tempfile.TemporaryDirectory() as folder:
-            fault = fault_of(program, folder, map, scripts)
+            try:
+                fault = fault_of(program, folder, map, scripts)
+            except LimitReached as limit:
+                fault = limit
         if fault:
             wrong += 1
             sections = "".join(f"%operator {name}\n{''.join(calls)}" for name, calls in zip(OPERATORS, ([lines_of(call) for call in script] for script in scripts)))

@@ -28,12 +28,12 @@ import argparse
 import os
 import pathlib
 import resource
-import subprocess
 import sys
 import tempfile
 
 sys.path.append(str(pathlib.Path(__file__).resolve().parent.parent / "bench"))
 from hostile import MOST_BUCKETS, OPERATOR, TYPES, bucket, nest  # noqa: E402
+from limited import LimitReached, run_limited  # noqa: E402
 from make_job import map_text, script  # noqa: E402
 
 JOBS = {
@@ -76,15 +76,11 @@ def ending(words, job, kind, limit):
     """Returns how a run with these words ends under a limit (in kB). The run starts in the folder of the job.
 
     `kind` is the kind of the limit, such as RLIMIT_STACK."""
-    def limited():
-        resource.setrlimit(kind, (limit * 1024, limit * 1024))
-
     with open(job, "rb") as stdin:
         try:
-            run = subprocess.run(words, stdin=stdin, capture_output=True, preexec_fn=limited, timeout=120,
-                                 cwd=os.path.dirname(job))
-        except subprocess.TimeoutExpired:
-            return "takes more than 120 s"
+            run = run_limited(words, {kind: limit * 1024}, stdin=stdin, capture_output=True, cwd=os.path.dirname(job))
+        except LimitReached as reached:
+            return str(reached)
         except OSError:
             return "isn't started"
     written = f", {len(run.stdout)} bytes written" if run.returncode and run.stdout else ""

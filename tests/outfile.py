@@ -28,6 +28,7 @@ import tempfile
 import time
 
 sys.path.append(str(pathlib.Path(__file__).resolve().parent.parent / "bench"))
+from limited import run_limited  # noqa: E402
 from make_job import map_text  # noqa: E402
 
 INSIDE = "--inside"
@@ -62,7 +63,7 @@ class Trials:
 
     def ended(self, *words):
         """Returns the status and the standard error of a run. The run must write nothing to standard output."""
-        run = subprocess.run(self.words(*words), capture_output=True, timeout=120)
+        run = run_limited(self.words(*words), capture_output=True)
         self.expect(run.stdout, b"", f"the output of {words}")
         return run.returncode, run.stderr.decode()
 

@@ -36,12 +36,12 @@ import math
 import os
 import random
 import re
-import subprocess
 import sys
 import tempfile
 
 from chance import Dice, random_command, random_map
 from for_ceph import ceph_lines
+from limited import LimitReached, run_limited
 from model import run_one
 from planned import commands_of, made_by, moved_late, out_of_class, plan_text, remade, stays, weighed_twice
 from reading import read_map
@@ -82,7 +82,7 @@ def pair_of(dice, index):
 
 
 def run(program, folder, words):
-    ran = subprocess.run([program, *words], cwd=folder, capture_output=True, timeout=60)
+    ran = run_limited([program, *words], cwd=folder, capture_output=True)
     return ran.returncode, ran.stdout.decode("latin-1"), ran.stderr.decode("latin-1")
 
 
@@ -141,7 +141,7 @@ def main(program, pairs=1000, seed=None):
                         out.write(own.text())
                 try:
                     rest, commands = check(program, folder, map, wanted, ["--by-name"] * (index % 2))
-                except ValueError as fault:
+                except (ValueError, LimitReached) as fault:
                     print(f"pair {index} {way}: {fault}\n{map.text()}--to\n{wanted.text()}")
                     wrong += 1
                     continue

@@ -24,6 +24,8 @@ import time
 import unittest
 
 sys.dont_write_bytecode = True
+from limited import LimitReached, run_limited  # noqa: E402
+
 HERE = pathlib.Path(__file__).resolve().parent
 MAP = (HERE.parent / "examples/example.txt").read_text()
 # The ends of two commands that the recipe prints: SET sets the new map, and BACK goes back to the old map.
@@ -64,11 +66,20 @@ class Trial(unittest.TestCase):
         """Writes a file that the stand-ins read."""
         (self.tools / name).write_text(text)
 
+    def run_limited(self, words, **how):
+        """Runs a command with the limits of limited.py, and returns how it ended. If a limit ends the command, the
+        test case fails."""
+        try:
+            return run_limited(words, **how)
+        except LimitReached as limit:
+            told = str(limit)
+        self.fail(told)
+
     def run_words(self, *words, **how):
         """Runs the recipe with these words in the test case's folder, and returns what it prints on both streams."""
-        how = {"timeout": 60, "cwd": str(self.here), "env": self.environment, **how}
-        ended = subprocess.run([str(RECIPE), *map(str, words)], stdin=subprocess.DEVNULL, stdout=subprocess.PIPE,
-                               stderr=subprocess.PIPE, **how)
+        how = {"cwd": str(self.here), "env": self.environment, **how}
+        ended = self.run_limited([str(RECIPE), *map(str, words)], stdin=subprocess.DEVNULL, stdout=subprocess.PIPE,
+                                 stderr=subprocess.PIPE, **how)
         self.status, self.out, self.told = ended.returncode, ended.stdout.decode(), ended.stderr.decode()
         return self.out + self.told
 
@@ -565,8 +576,8 @@ class Exact(Trial):
         lines = ["device {} osd.{}\n".format(number, number) for number in range(len(weights))] + ["type 1 host\n"]
         lines += ["host h1 { id -1 alg straw2\n"]
         lines += ["item osd.{} weight {:.5f}\n".format(number, units / 65536) for number, units in enumerate(weights)] + ["}\n"]
-        run = {"input": "".join(lines).encode(), "stdout": subprocess.PIPE, "check": True, "timeout": 60}
-        text = subprocess.run([str(PROGRAM), *words], **run).stdout
+        run = {"input": "".join(lines).encode(), "stdout": subprocess.PIPE, "check": True}
+        text = self.run_limited([str(PROGRAM), *words], **run).stdout
         (self.here / "text").write_bytes(text)
         subprocess.run([str(self.tools / "crushtool"), "-c", str(self.here / "text"), "-o", str(self.here / "new")], check=True)
         items = re.findall(r"(?m)^\titem osd\.\d+ weight (\S+)$", (self.here / "new").read_text())

@@ -12,8 +12,8 @@ its operators run at once, and with --in-turn. A run must end in one of two ways
   calls may differ from run to run. Then the status, standard error, and the calls of each operator must be the same.
 
 If the thread of one operator runs out of memory, the run waits until all other operators have finished. So each run
-must end by itself, within 60 seconds. The program ends by a call of `_exit`. There the library checks that no other
-thread is left.
+must end by itself, before it reaches a limit of `limited.py`. The program ends by a call of `_exit`. There the library
+checks that no other thread is left.
 
 The expected line on standard error is `no thread` if the refused request was for the start of a thread, and otherwise
 `out of memory`. A request is for the start of a thread if the first thread of the process makes the request at one of
@@ -55,6 +55,8 @@ import shutil
 import subprocess
 import sys
 import tempfile
+
+from limited import LimitReached, run_limited
 
 EXAMPLES = pathlib.Path(__file__).resolve().parent.parent / "examples"
 NO_MEMORY, NO_THREAD = b"crushedit: out of memory\n", b"crushedit: no thread\n"
@@ -251,7 +253,7 @@ def preloaded(command, library, files, job, number, thread=0):
     """
     environment = {"LD_PRELOAD": library, "REFUSED_NUMBER": number, "THREAD_NUMBER": thread, **files}
     environment = {name: str(value) for name, value in environment.items()}
-    return subprocess.run(command, input=job, capture_output=True, env=environment, timeout=60)
+    return run_limited(command, input=job, capture_output=True, env=environment)
 
 
 class Refuser:
@@ -271,7 +273,10 @@ class Refuser:
         and the words of REFUSED_FILE. The second value is None if no request was refused and no start failed.
         """
         self.told.unlink(missing_ok=True)
-        run = preloaded(self.command, self.library, self.files, self.job, number, thread)
+        try:
+            run = preloaded(self.command, self.library, self.files, self.job, number, thread)
+        except LimitReached as limit:
+            raise Ending(f"{self.name}: request {number}, thread {thread}: {limit}") from None
         return run, self.told.read_text().split() if self.told.exists() else None
 
     def lines(self, told):
@@ -360,7 +365,7 @@ def refuse_each_of_test(tests, library, name):
 
 def tests_of(tests, module):
     """Returns the names of the tests of a module in a test program. Raises Ending if there are none."""
-    listed = subprocess.run([tests, "--list"], capture_output=True, check=True, timeout=60).stdout.decode()
+    listed = run_limited([tests, "--list"], capture_output=True, check=True).stdout.decode()
     names = re.findall(rf"(?m)^({module}\w+): test$", listed)
     if not names:
         raise Ending(f"{tests}: no test is called {module}NAME")
@@ -500,7 +505,7 @@ def main():
             if tests:
                 print(f"{look_often(tests, library)} pairs of tests: 1,000 looks, and 16 closes, ask for no more "
                       "memory than one")
-        except Ending as ending:
+        except (Ending, LimitReached) as ending:
             pool.shutdown(cancel_futures=True)
             sys.exit(str(ending))
 

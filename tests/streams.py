@@ -35,6 +35,7 @@ import tempfile
 
 sys.path.append(str(pathlib.Path(__file__).resolve().parent.parent / "bench"))
 from explained import unread_text  # noqa: E402
+from limited import run_limited  # noqa: E402
 from make_job import map_text, script  # noqa: E402
 
 READ, WRITE = "crushedit: read fault", "crushedit: write fault"
@@ -203,9 +204,8 @@ def ending(program, library, folder, command, is_on_terminal):
         for name in JOBS:
             os.link(os.path.join(folder, name), os.path.join(case, name))
         with open(os.path.join(folder, "out"), "wb") as out:
-            run = subprocess.run(["bash", "-c", command], cwd=case, env={**os.environ, "C": program, "L": library},
-                                 stdin=subprocess.DEVNULL, stdout=out, stderr=errors, timeout=60,
-                                 restore_signals=True)
+            run = run_limited(["bash", "-c", command], cwd=case, env={**os.environ, "C": program, "L": library},
+                              stdin=subprocess.DEVNULL, stdout=out, stderr=errors, restore_signals=True)
         if is_on_terminal:
             os.close(errors)
         with open(os.path.join(folder, "out"), "rb") as out:
