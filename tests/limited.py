@@ -4,7 +4,8 @@ A test must not fail because the machine is busy with other work. So the limit t
 long is a limit of processor time: other work doesn't count for it. The limit of elapsed time is much longer. It only
 ends commands that hang, that is, commands that wait and use no processor time.
 
-recipe_test.py imports this module, also on hosts where the program is installed. So the module needs only Python 3.6.
+recipe_test.py imports this module, and can also run on a host where the program is installed. Such a host may have an
+old Python, so the module needs only Python 3.6.
 """
 
 import resource
@@ -23,8 +24,8 @@ class LimitReached(SystemExit):
 
 
 def set_limits(limits):
-    """Sets soft limits of the process that calls the function. `limits` has the value of each limit by its kind, such
-    as RLIMIT_STACK. If the hard limit is less than the value, the soft limit becomes the hard limit."""
+    """Sets soft limits of the process that calls the function. `limits` maps the kind of each limit, such as
+    RLIMIT_STACK, to its value. If the hard limit is less than this value, the soft limit becomes the hard limit."""
     for kind, wanted in limits.items():
         _, most = resource.getrlimit(kind)
         resource.setrlimit(kind, (wanted if most == resource.RLIM_INFINITY else min(wanted, most), most))
